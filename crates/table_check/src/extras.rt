@@ -21,20 +21,22 @@ use crate::claims::Claim;
 use eh_frame::{Bases, EhFrame, Entries, Entry, Fde};
 
 /// Whether a description has the range of a claim, or shares no address with any. The claims ascend
-/// and share no address; the one that it may share one with is at an index that is guessed, or else
-/// found by halving.
-pub(crate) fn fits_claims(fde: &Fde<'_>, claims: &[Claim], guess: usize) -> bool
-    requires { AreInOrder (map function_of claims.now) }
+/// and share no address; the first one that ends after its start is at an index.
+pub(crate) fn fits_claims(fde: &Fde<'_>, claims: &[Claim], index: usize) -> bool
+    requires order { AreInOrder (map function_of claims.now) }
+    requires within { index ≤ length claims.now }
+    requires before { (k : ℕ) (d : Claimed) → k < index →
+        (slice_index_or claims.now k d).end ≤ (fde_of fde.now).start }
+    requires after { (k : ℕ) (d : Claimed) → index ≤ k → k < length claims.now →
+        (fde_of fde.now).start < (slice_index_or claims.now k d).end }
     ensures { Decides result
         (AllByRecursion (FitsFunction (fde_of fde.now)) (map function_of claims.now)) }
 {
-    let start = fde.initial_address();
-    let i = first_ending_after(claims, start, guess);
-    if i == claims.len() {
+    if index == claims.len() {
         return true;
     }
-    let claim = &claims[i];
-    fits(claim.start, claim.end, start, fde.len())
+    let claim = &claims[index];
+    fits(claim.start, claim.end, fde.initial_address(), fde.len())
 }
 
 // Whether a description has the range of a claim that ends after its start, or ends before it.
@@ -52,9 +54,21 @@ fn fits(claim_start: u64, claim_end: u64, start: u64, len: u64) -> bool
     claim_start == start && claim_end - start == len
 }
 
-/// The index of the first claim that ends after an address, or how many there are: the one that is
-/// guessed, or else it is found by halving.
-pub(crate) fn first_ending_after(claims: &[Claim], address: u64, guess: usize) -> usize
+/// The index of the first claim that ends after a description's start, or how many there are: the
+/// one that is guessed, or else it is found by halving.
+pub(crate) fn first_ending_after_start(claims: &[Claim], fde: &Fde<'_>, guess: usize) -> usize
+    requires { AreInOrder (map function_of claims.now) }
+    ensures within { result ≤ length claims.now }
+    ensures before { (k : ℕ) (d : Claimed) → k < result →
+        (slice_index_or claims.now k d).end ≤ (fde_of fde.now).start }
+    ensures after { (k : ℕ) (d : Claimed) → result ≤ k → k < length claims.now →
+        (fde_of fde.now).start < (slice_index_or claims.now k d).end }
+{
+    first_ending_after(claims, fde.initial_address(), guess)
+}
+
+// The index of the first claim that ends after an address.
+fn first_ending_after(claims: &[Claim], address: u64, guess: usize) -> usize
     requires { AreInOrder (map function_of claims.now) }
     ensures within { result ≤ length claims.now }
     ensures before { (k : ℕ) (d : Claimed) → k < result →
@@ -165,7 +179,8 @@ fn extra_start(
     match entry {
         Entry::Cie(_) => None,
         Entry::Fde(fde) => {
-            if may_stand(frames, bases, claims, fde, count, highest, 0) {
+            let index = first_ending_after_start(claims, fde, 0);
+            if may_stand(frames, bases, claims, fde, count, highest, index) {
                 None
             } else {
                 Some(fde.initial_address())
@@ -197,7 +212,7 @@ fn is_apart_from(entry: &Entry<'_>, fde: &Fde<'_>) -> bool
 }
 
 /// Whether a description may stand after so many entries, whose descriptions end at or before an
-/// address. The claim that it may be of is guessed.
+/// address. The first claim that ends after its start is at an index.
 pub(crate) fn may_stand(
     frames: &EhFrame<'_>,
     bases: &Bases,
@@ -205,15 +220,20 @@ pub(crate) fn may_stand(
     fde: &Fde<'_>,
     count: u64,
     highest: u64,
-    guess: usize,
+    index: usize,
 ) -> bool
-    requires { AreInOrder (map function_of claims.now) }
+    requires order { AreInOrder (map function_of claims.now) }
+    requires within { index ≤ length claims.now }
+    requires before { (k : ℕ) (d : Claimed) → k < index →
+        (slice_index_or claims.now k d).end ≤ (fde_of fde.now).start }
+    requires after { (k : ℕ) (d : Claimed) → index ≤ k → k < length claims.now →
+        (fde_of fde.now).start < (slice_index_or claims.now k d).end }
     ensures { (before : List Described) (end : ℕ) → length before ≡ count →
         ReadBefore (bases_of bases.now) (table_of frames.now) 0 before end →
         AllByRecursion (EndsBy highest) (fdes_of before) →
         Decides result (MayStand (map function_of claims.now) (fdes_of before) (fde_of fde.now)) }
 {
-    fde.len() > 0 && is_apart(frames, bases, fde, count, highest) && fits_claims(fde, claims, guess)
+    fde.len() > 0 && is_apart(frames, bases, fde, count, highest) && fits_claims(fde, claims, index)
 }
 
 // Whether a description shares no address with those before it.

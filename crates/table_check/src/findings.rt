@@ -18,7 +18,7 @@ ghost use Rattle.table_check.specs.Scanned.{IsFirstRefused, ReadBefore};
 
 use crate::claims::Claim;
 use crate::entries::is_short;
-use crate::extras::{later_end, may_stand};
+use crate::extras::{first_ending_after_start, later_end, may_stand};
 use crate::header_tables::is_listed;
 use crate::marks::{forget_descriptions, note};
 use eh_frame::{Entry, Fde, RowWalk};
@@ -165,7 +165,8 @@ impl Findings {
         if self.extra.is_some() {
             return;
         }
-        let (entries, highest, guess) = (self.entries, self.highest, self.next_claim);
+        let (entries, highest) = (self.entries, self.highest);
+        let index = first_ending_after_start(claims, fde, self.next_claim);
         if !may_stand(
             &table.frames,
             &table.bases,
@@ -173,12 +174,12 @@ impl Findings {
             fde,
             entries,
             highest,
-            guess,
+            index,
         ) {
             self.extra = Some(fde.initial_address());
             return;
         }
-        self.next_claim = note(image, &table.bases, claims, fde, guess, walk);
+        self.next_claim = note(image, &table.bases, claims, fde, index, walk);
         self.are_listed = self.are_listed & is_listed(table, fde, self.descriptions);
         self.highest = later_end(fde, highest);
     }

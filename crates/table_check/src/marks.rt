@@ -1,7 +1,8 @@
 //! Which claims have a description, and what these say. LSB, section on `.eh_frame`; Itanium C++ ABI,
 //! exception handling tables.
 
-ghost use Rattle.std.specs.Prelude.{◌≡◌, ◌==◌, ◌+◌, ◌&&◌, ◌++◌, ◌∷◌, IsTrue, List, [], map};
+ghost use Rattle.std.specs.Prelude.{◌≡◌, ◌==◌, ◌+◌, ◌<◌, ◌≤◌, ◌&&◌, ◌++◌, ◌∷◌, ℕ, IsTrue, List, []};
+ghost use Rattle.std.specs.Prelude.{length, map, slice_index_or};
 ghost use Rattle.std.specs.Bool.{Decides};
 ghost use Rattle.std.specs.List.{AllByRecursion};
 ghost use Rattle.memory_image.specs.Image.{Span};
@@ -14,6 +15,7 @@ ghost use Rattle.unwind_definitions.specs.Prologue.{SystemV};
 ghost use Rattle.encoded_pointers.specs.PointerViews.{bases_of};
 ghost use Rattle.eh_frame.specs.EntryViews.{fde_of};
 ghost use Rattle.table_check.specs.AllEntries.{AllApart};
+ghost use Rattle.table_check.specs.declared.claims.Claim.{Claim as Claimed};
 ghost use Rattle.table_check.specs.ClaimViews.{function_of};
 ghost use Rattle.table_check.specs.Descriptions.{HasCode, HasLanguage};
 ghost use Rattle.table_check.specs.First.{TellsFirst};
@@ -23,7 +25,6 @@ ghost use Rattle.table_check.specs.Scanned.{IsDescribedAmong};
 
 use crate::claims::{Claim, Described};
 use crate::descriptions::describes_code;
-use crate::extras::first_ending_after;
 use crate::language::has_sites;
 use eh_frame::{Bases, Fde, RowWalk};
 use memory_image::MemoryImage;
@@ -39,32 +40,37 @@ pub(crate) fn forget_descriptions(claims: &mut [Claim])
 }
 
 /// Notes what a description says for the claim that has its range, if there is one. The claims
-/// ascend and share no address; the one that has it is guessed. Answers a guess for the next one.
+/// ascend and share no address; the first one that ends after its start is at an index. Answers a
+/// guess for the next one.
 pub(crate) fn note<'a>(
     image: &MemoryImage<'_>,
     bases: &Bases,
     claims: &mut [Claim],
     fde: &Fde<'a>,
-    guess: usize,
+    index: usize,
     walk: &mut RowWalk<'a>,
 ) -> usize
     requires order { AreInOrder (map function_of claims.old) }
+    requires within { index ≤ length claims.old }
+    requires before { (k : ℕ) (d : Claimed) → k < index →
+        (slice_index_or claims.old k d).end ≤ (fde_of fde.now).start }
+    requires after { (k : ℕ) (d : Claimed) → index ≤ k → k < length claims.old →
+        (fde_of fde.now).start < (slice_index_or claims.old k d).end }
     requires functions { AllByRecursion (IsFunction SystemV) (map function_of claims.old) }
     ensures same { map function_of claims.new ≡ map function_of claims.old }
     ensures marks { (before : List Description) →
         AreMarked image.now (bases_of bases.now) before claims.old →
         AreMarked image.now (bases_of bases.now) (before ++ fde_of fde.now ∷ []) claims.new }
 {
-    let i = first_ending_after(claims, fde.initial_address(), guess);
-    if i == claims.len() {
-        return i;
+    if index == claims.len() {
+        return index;
     }
-    if !has_range(&claims[i], fde) {
-        return i;
+    if !has_range(&claims[index], fde) {
+        return index;
     }
-    let described = describe(image, &claims[i], fde, bases, walk);
-    claims[i].description = Some(described);
-    i + 1
+    let described = describe(image, &claims[index], fde, bases, walk);
+    claims[index].description = Some(described);
+    index + 1
 }
 
 // What a description says that has a claim's range.
