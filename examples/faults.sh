@@ -8,6 +8,7 @@ set -uo pipefail
 cd "$(dirname "$0")"
 tools=$PWD/../tools
 programs=$PWD/out
+stored=$PWD/../crates/backtrace/stdin
 scratch=$(mktemp -d)
 processes=
 trap 'kill $processes 2> /dev/null; rm -rf "$scratch"' EXIT
@@ -154,12 +155,45 @@ of_words() {
     try refused 'a snapshot of random bytes' "$tools/names.py" - "$scratch/junk"
     try refused 'a snapshot without modules' "$tools/names.py" - <(echo '{}')
     try refused 'joining what is no snapshot' "$tools/join.py" "$scratch/junk"
-    sed 's/"interrupted"/"interupted"/' ../crates/backtrace/stdin > "$scratch/misspelt"
-    sed 's/"eh_frame"/"ehframe"/' ../crates/backtrace/stdin > "$scratch/no-table"
-    head -c 500 ../crates/backtrace/stdin > "$scratch/cut"
+    head -c 500 "$stored" > "$scratch/cut"
     try refused 'a stored snapshot that was cut off' "$tools/backtrace.sh" "$scratch/cut"
-    try refused 'a stored snapshot with a faulty module' "$tools/backtrace.sh" "$scratch/no-table"
-    try refused 'a stored snapshot with a member that was misspelt' "$tools/backtrace.sh" "$scratch/misspelt" --strict
+    try refused 'an empty one' "$tools/backtrace.sh" "$scratch/empty"
+    try refused 'one of random bytes' "$tools/backtrace.sh" "$scratch/junk"
+    changed 'one that begins with a byte order mark' $'1s/^/\xef\xbb\xbf/'
+    changed 'one with a word after it' '48s/}/} more/'
+    changed 'one with a faulty module' 's/"eh_frame"/"ehframe"/'
+    changed 'one with a kind in capitals' 's/"elf"/"ELF"/'
+    changed 'one without a counter' 's/"rip"/"rpi"/'
+    changed 'one with a letter for a digit' 's/"0x/"0y/'
+    changed 'one with a limit of 0' 's/"limit": [0-9]*/"limit": 0/'
+    changed 'one with a limit of 100.0' 's/"limit": [0-9]*/"limit": 100.0/'
+    changed 'one with a member that was misspelt' 's/"interrupted"/"interupted"/' --strict
+    # shellcheck disable=SC2016
+    try refused 'the same by check_schema.py' bash -c 'exec "$0" "$1" >&2' "$tools/check_schema.py" "$scratch/altered"
+}
+
+# WHAT CHANGE OPTIONS..: the stored snapshot, changed.
+changed() {
+    sed "$2" "$stored" > "$scratch/altered"
+    try refused "$1" "$tools/backtrace.sh" "$scratch/altered" "${@:3}"
+}
+
+# What the built program says of its two ends and of its memory, and where it is found.
+of_built() {
+    local backtrace=${BACKTRACE:-../crates/backtrace/out/backtrace}
+    [ -x "$backtrace" ] || backtrace=$(command -v backtrace)
+    { cat "$stored"; head -c 20000000 /dev/zero | tr '\0' ' '; } > "$scratch/long"
+    # shellcheck disable=SC2016
+    {
+        try refused 'its input is closed' bash -c 'exec "$0" <&-' "$backtrace"
+        try refused 'there is no room for its report' bash -c 'exec "$0" < "$1" > /dev/full' "$backtrace" "$stored"
+        try refused 'it may not have the memory' bash -c 'ulimit -v 12000; exec "$0" < "$1"' "$backtrace" "$scratch/long"
+        try refused 'its text is too long' bash -c 'head -c 70000000 /dev/zero | "$0" >&2' "$backtrace"
+    }
+    mkdir "$scratch/found"
+    cp "$backtrace" "$scratch/found/backtrace"
+    cp -r "$tools" "$scratch/tools"
+    try printed 'the program is found on the PATH' env -u BACKTRACE PATH="$scratch/found:$PATH" "$scratch/tools/backtrace.sh" "$live"
 }
 
 start "$programs/nested-gcc-O2"
@@ -168,4 +202,5 @@ of_processes
 of_cores
 of_programs
 of_words
+of_built
 exit "$failed"
