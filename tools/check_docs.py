@@ -205,7 +205,7 @@ EXCEPTIONS = {
     "_Unwind_RaiseException longjmp snprintf x25519_fe64_sqr ossl_rsaz_amm52x20_x1_avxifma256 "
     "ossl_rsaz_amm52x40_x2_avxifma256 aesni_xts_128_encrypt_avx512 Curl_altsvc_save sqlite3Select rtreeInsertCell "
     "pcache1Unpin git_buf_dispose ossl_rsaz_amm52x30_x2_avxifma256 aesni_xts_256_decrypt_avx512 MachineRegisterInfo "
-    "__longjmp_chk getVendorSignature linux_ptrace_test_ret_to_nx",
+    "__longjmp_chk getVendorSignature linux_ptrace_test_ret_to_nx ossl_bsaes_xts_decrypt ossl_bsaes_xts_encrypt",
     "a build of an example": "every_instruction",
     "names that stand for any": "a File.name rC",
 }

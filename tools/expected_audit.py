@@ -16,11 +16,12 @@ import sys
 from typing import Any, Iterator
 
 from claimed_facts import claim_words
+from code_file import entries_read
 from elf_image import ElfImage
 from fact_rows import CFA, FRAME_POINTER, STACK_POINTER
 from frame_table import Table, common_entries
 from known_frame import CALLEE_SAVED
-from tables import COLUMNS, Entry, Row, entries_of, with_arguments
+from tables import COLUMNS, Entry, Row, with_arguments
 
 WORDS = {"exp": "expression", "vexp": "value expression", "u": "undefined", "s": "same value"}
 
@@ -93,7 +94,7 @@ def report(path: str, claims: list[dict[str, Any]]) -> Iterator[str]:
         section = elf.section(".eh_frame")
         assert section is not None
         commons = common_entries(Table(section.address, elf.contents(section)))
-    told = entries_of(path)
+    told = entries_read(path)
     by_offset = {entry.offset: entry for entry in told}
     entries = sorted((entry for entry in told if entry.common is not None), key=lambda entry: entry.covers)
     starts = [entry.covers.start for entry in entries]

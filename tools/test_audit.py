@@ -1,4 +1,4 @@
-"""Tests of audit.py and changed_tables.py: wrong rows that are known, and what is said of them.
+"""Tests of audit.py, changed_tables.py and damaged_claims.py: wrong rows that are known, and what is said of them.
 
 In place of `unwind_cli audit` stands a reader of the same text that goes by frame_programs.py."""
 from __future__ import annotations
@@ -8,6 +8,7 @@ import io
 import json
 import os
 import pathlib
+import random
 import re
 import subprocess
 import tempfile
@@ -16,6 +17,7 @@ from unittest import mock
 
 import audit
 import changed_tables
+import damaged_claims
 from audit import Found, Names, asked, audited, code_lines, counts_of, is_other, line_of, print_audit, read_report, row_of
 from audit import summary_of, texts_of
 from claimed_facts import Claimed, Facts, claim_object, claim_words, claimed_in, tables_of
@@ -26,6 +28,7 @@ from elf_image import Refused
 from expected_audit import in_words
 from frame_programs import descriptions_of, rows_of
 from frame_table import Table
+from programs import Done
 from thread_reports import Answer
 from tables import COLUMNS, Row
 
@@ -283,6 +286,47 @@ class Changes(unittest.TestCase):
                 rows.update({"changed": said.changed, "same": said.same, "gone": said.gone})
         self.assertEqual(rows["changed"] + rows["same"], 16)
         self.assertTrue(all(rows[name] for name in ("changed", "same", "gone")), rows)
+
+
+class Damage(unittest.TestCase):
+    FIRST = {"from": "0x10", "to": "0x20", "rsp": "0x8"}
+
+    def test_what_is_expected_of_claims(self) -> None:
+        first, object_of = self.FIRST, lambda *claims: damaged_claims.text_of({"claims": [*claims]})
+        for text, line in (
+            (b"", "not json"), (b"{", "not json"), (b'{"claims":[NaN]}', "not json"), (b'{"claims":["\xff"]}', "not json"),
+            (b"[]", "bad snapshot: object"), (b'{"claims":[0.5]}', "bad snapshot: object"),
+            (object_of(first, {"rsp": 1 << 64}), "bad snapshot: object"), (b"{}", "bad snapshot: claims"),
+            (b'{"claims":{}}', "bad snapshot: claims"), (object_of(first, 0), "bad snapshot: claim 1"),
+            (object_of(first, {"from": "0x20"}), "bad snapshot: claim 1"),
+            (object_of(first | {"to": "20"}), "bad snapshot: claim 0"),
+            (object_of(first | {"kept": {}}), "bad snapshot: claim 0"),
+            (object_of(first | {"saved": {"r12": 5}}), "bad snapshot: claim 0"),
+            (object_of(first, first | {"outermost": None}), "bad snapshot: claim 1"),
+            (object_of(first | {"from": "0x20"}, 0), "bad snapshot: claim 1"),
+            (object_of(first | {"from": "0x20"}), "refused: claim 0 empty"),
+            (object_of(first, first | {"from": "0x8"}), "refused: claim 1 out of order"),
+            (object_of(first, first), "refused: claim 1 overlaps"),
+        ):
+            with self.subTest(text):
+                self.assertEqual(damaged_claims.expected("none", text), f"{line}\n")
+
+    def test_runs_that_disagree_are_found(self) -> None:
+        with tempfile.TemporaryDirectory() as folder:
+            path = built(folder)
+            flow = CodeFlow(CodeFile(path))
+            value = tables_of(flow.file) | {"claims": [claim_object(claim) for claim in claimed_in(flow)]}
+            text, dice = damaged_claims.text_of(value), random.Random("claims")
+            texts = [text, *(damaged_claims.damaged(dice, value, text) for _ in range(300))]
+            said = [damaged_claims.expected(path, text) for text in texts]
+            self.assertEqual(said[0], stand_in(["unwind_cli", "audit"], text).text)
+            done = [Done(damaged_claims.status_of(text), text.encode(), b"") for text in said]
+            with mock.patch.object(damaged_claims, "run_program", side_effect=done):
+                counts, disagreeing = damaged_claims.tried("p", path, iter(texts))
+            self.assertEqual((counts.keys(), counts.total(), disagreeing), (damaged_claims.KINDS.keys(), 301, []))
+            with mock.patch.object(damaged_claims, "run_program", return_value=done[0]):
+                counts, disagreeing = damaged_claims.tried("p", path, iter(texts))
+            self.assertEqual([one[0] for one in disagreeing], [number for number, text in enumerate(said) if text != said[0]])
 
 
 if __name__ == "__main__":
