@@ -3,6 +3,7 @@ pub mod NoteLemmas
 pub mod PartLemmas
 pub mod GrammarLemmas
 pub mod ThreadLemmas
+pub mod MappedLemmas
 pub mod CoreLemmas
 pub mod AddingLemmas
 pub mod SampleLemmas

@@ -8,6 +8,10 @@ pub mod NoteGrammar
 pub mod ThreadStatus
 pub mod CoreValue
 pub mod CoreGrammar
+-- Which files were mapped.
+pub mod MappedParts
+pub mod PartEntryBytes
+pub mod MappedViews
 -- What an image holds after a core's segments were added, and what the iterators have left.
 pub mod Adding
 pub mod Left

@@ -37,7 +37,7 @@ impl<'a> Model for CoreFile<'a> {
 }
 
 /// The program headers of a file, where they and the segments of memory and of notes lie within it.
-fn headers_within(bytes: &[u8]) -> Option<Records<'_, ProgramHeader>>
+pub(crate) fn headers_within(bytes: &[u8]) -> Option<Records<'_, ProgramHeader>>
     requires { 64 ≤ length bytes.now }
     ensures { result ≡ headers_within bytes.now }
 {

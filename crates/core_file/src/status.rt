@@ -56,7 +56,7 @@ fn context_in(status: &[u8]) -> Context
 }
 
 /// Where the first zero byte stands.
-fn zero_in(bytes: &[u8]) -> Option<usize>
+pub(crate) fn zero_in(bytes: &[u8]) -> Option<usize>
     ensures place { result ≡ position (λ b. b == 0) bytes.now }
     ensures within { IfSome result (λ place. place < length bytes.now) }
 {
@@ -65,7 +65,7 @@ fn zero_in(bytes: &[u8]) -> Option<usize>
 
 impl<'a> NoteEntry<'a> {
     /// The name up to a zero byte.
-    fn name_text(&self) -> &'a [u8]
+    pub(crate) fn name_text(&self) -> &'a [u8]
         ensures { result.now ≡ name_of (note_of self.now) }
     {
         match zero_in(self.name) {

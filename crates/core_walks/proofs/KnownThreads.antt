@@ -6,7 +6,7 @@ use Rattle.memory_image.specs.Image.{IsLaidOut}
 use Rattle.unwind_arch.specs.declared.x86_64.Context.{Context}
 use Rattle.unwind_definitions.specs.State.{State}
 use Rattle.stack_steps.specs.Modules.{SpaceValue, AreApart}
-use Rattle.stack_steps.specs.declared.answers.DeliverError.{DeliverError}
+use Rattle.stack_steps.specs.declared.error.DeliverError.{DeliverError}
 use Rattle.stack_walks.specs.KnownWalks.{StartsKnownStack}
 use Rattle.stack_walks.proofs.KnownLines.{known_walked}
 use Rattle.stack_deliver.proofs.Chains.{shown_states}
@@ -17,7 +17,7 @@ use Rattle.core_walks.specs.Lines.{walked_text, thread_text, core_report_of, tex
 use Rattle.core_walks.specs.ThreadLines.{thread_lines}
 use Rattle.core_walks.proofs.ThreadText.{placed}
 
-known_is : (space : SpaceValue) (limit index : ℕ) (thread : Context) (s : State) (callers : List State) → AreApart 0 space.modules → IsLaidOut 0 space.image
+pub known_is : (space : SpaceValue) (limit index : ℕ) (thread : Context) (s : State) (callers : List State) → AreApart 0 space.modules → IsLaidOut 0 space.image
     → StartsKnownStack space thread limit true s callers → thread_text space limit index thread ≡ thread_lines index (s ∷ callers)
 unfolding thread_text
 known_is space limit index thread s callers apart laid starts =

@@ -9,17 +9,17 @@ use Rattle.unwind_definitions.specs.Function.{Function}
 use Rattle.unwind_definitions.specs.Chain.{Call, states_of}
 use Rattle.stack_steps.specs.Modules.{SpaceValue, AreApart}
 use Rattle.stack_steps.specs.Stopped.{StartsStopped}
-use Rattle.stack_steps.specs.declared.answers.DeliverError.{DeliverError}
+use Rattle.stack_steps.specs.declared.error.DeliverError.{DeliverError}
 use Rattle.stack_walks.specs.Lines.{line_of}
 use Rattle.stack_walks.proofs.StoppedWalk.{stopped_walked}
 use Rattle.stack_deliver.proofs.Chains.{shown_states}
 use Rattle.stack_snapshot.specs.Cores.{CoreContent, core_space_of, threads_of}
 use Rattle.stack_report.specs.Report.{line, walk_text}
 use Rattle.stack_report.proofs.Shows.{walk_shown}
-use Rattle.core_walks.specs.Lines.{walked_text, thread_text, threads_text, core_report_of, stopped_text, text_before, text_after}
+use Rattle.core_walks.specs.Lines.{walked_text, thread_text, threads_text, core_report_of, lines_before, lines_after, stopped_text, text_before, text_after}
 
 -- a thread that was stopped in a described function
-stopped_is : (space : SpaceValue) (limit index : ℕ) (thread : Context) (functions : List Function) (s : State) (call : Call) (calls : List Call) → AreApart 0 space.modules → IsLaidOut 0 space.image
+pub stopped_is : (space : SpaceValue) (limit index : ℕ) (thread : Context) (functions : List Function) (s : State) (call : Call) (calls : List Call) → AreApart 0 space.modules → IsLaidOut 0 space.image
     → StartsStopped space thread limit functions s call calls → thread_text space limit index thread ≡ stopped_text index s (call ∷ calls)
 unfolding thread_text
 stopped_is space limit index thread functions s call calls apart laid starts =
@@ -58,19 +58,26 @@ threads_split space limit from (d ∷ ds) (suc i) c e =
     ∙ ap (λ t. t ++ after) (sym (append_assoc at before here))
     ∙ ap (λ n. at ++ before ++ thread_text space limit n c ++ threads_text space limit (n + 1) (drop (suc i) ds)) place
 
--- what is written of a core file has the lines of a thread in their place
+-- what is written of threads has the lines of one in their place
+pub placed_among : (space : SpaceValue) (limit : ℕ) (cs : List Context) (index : ℕ) (thread : Context) (lines : List ℕ) → slice_get cs index ≡ Some thread → thread_text space limit index thread ≡ lines →
+    threads_text space limit 0 cs ≡ lines_before space limit cs index ++ lines ++ lines_after space limit cs index
+placed_among space limit cs index thread lines at is =
+    let text : ℕ → List ℕ = λ n. thread_text space limit n thread in
+    let others : ℕ → ℕ → List ℕ = λ n m. threads_text space limit n (drop m cs) in
+    let before = lines_before space limit cs index in
+    let after = lines_after space limit cs index in
+    let from : 0 + index ≡ index = omega arith in
+    let next : suc index ≡ index + 1 = omega arith in
+    threads_split space limit 0 cs index thread at
+    ∙ ap (λ n. before ++ text n ++ others (n + 1) (suc index)) from
+    ∙ ap (λ n. before ++ text index ++ others (index + 1) n) next
+    ∙ ap (λ t. before ++ t ++ after) is
+
+-- so has what is written of a core file
 pub placed : (c : CoreContent) (index : ℕ) (thread : Context) (text : List ℕ) → slice_get (threads_of c.file) index ≡ Some thread → thread_text (core_space_of c) c.limit index thread ≡ text →
     core_report_of c ≡ text_before c index ++ text ++ text_after c index
 unfolding core_report_of
-placed c index thread lines at is =
-    let text : ℕ → List ℕ = λ n. thread_text (core_space_of c) c.limit n thread in
-    let others : ℕ → ℕ → List ℕ = λ n m. threads_text (core_space_of c) c.limit n (drop m (threads_of c.file)) in
-    let from : 0 + index ≡ index = omega arith in
-    let next : suc index ≡ index + 1 = omega arith in
-    threads_split (core_space_of c) c.limit 0 (threads_of c.file) index thread at
-    ∙ ap (λ n. text_before c index ++ text n ++ others (n + 1) (suc index)) from
-    ∙ ap (λ n. text_before c index ++ text index ++ others (index + 1) n) next
-    ∙ ap (λ t. text_before c index ++ t ++ text_after c index) is
+placed c index thread lines at is = placed_among (core_space_of c) c.limit (threads_of c.file) index thread lines at is
 
 pub stopped_place : (c : CoreContent) (index : ℕ) (thread : Context) (functions : List Function) (s : State) (call : Call) (calls : List Call) → AreApart 0 (core_space_of c).modules → IsLaidOut 0 (core_space_of c).image
     → slice_get (threads_of c.file) index ≡ Some thread → StartsStopped (core_space_of c) thread c.limit functions s call calls → core_report_of c ≡ text_before c index ++ stopped_text index s (call ∷ calls) ++ text_after c index

@@ -7,7 +7,7 @@ use Rattle.unwind_arch.specs.declared.x86_64.Context.{Context}
 use Rattle.core_file.specs.declared.errors.CoreError.{CoreError}
 use Rattle.core_file.specs.declared.errors.CoreError.TheVariants.{Header, ManySegments, Segments, Notes}
 use Rattle.stack_steps.specs.Modules.{SpaceValue}
-use Rattle.stack_steps.specs.declared.answers.DeliverError.{DeliverError}
+use Rattle.stack_steps.specs.declared.error.DeliverError.{DeliverError}
 use Rattle.stack_walks.specs.Lines.{line_of}
 use Rattle.stack_snapshot.specs.Cores.{CoreContent, core_space_of, threads_of}
 use Rattle.stack_report.specs.Report.{line, walk_report_of, walk_text}
@@ -36,11 +36,18 @@ unfoldable pub core_report_of : CoreContent → List ℕ
 core_report_of c = threads_text (core_space_of c) c.limit 0 (threads_of c.file)
 
 -- what is written of the threads before one, and of those after it
+abbrev pub lines_before : SpaceValue → ℕ → List Context → ℕ → List ℕ
+lines_before space limit cs index = threads_text space limit 0 (take index cs)
+
+abbrev pub lines_after : SpaceValue → ℕ → List Context → ℕ → List ℕ
+lines_after space limit cs index = threads_text space limit (index + 1) (drop (index + 1) cs)
+
+-- the same of those of a core file
 abbrev pub text_before : CoreContent → ℕ → List ℕ
-text_before c index = threads_text (core_space_of c) c.limit 0 (take index (threads_of c.file))
+text_before c index = lines_before (core_space_of c) c.limit (threads_of c.file) index
 
 abbrev pub text_after : CoreContent → ℕ → List ℕ
-text_after c index = threads_text (core_space_of c) c.limit (index + 1) (drop (index + 1) (threads_of c.file))
+text_after c index = lines_after (core_space_of c) c.limit (threads_of c.file) index
 
 -- ---- refusals
 

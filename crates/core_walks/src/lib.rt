@@ -5,4 +5,4 @@ mod lines;
 mod walking;
 
 pub use lines::{core_refused_line, region_refused_line};
-pub use walking::core_report_of;
+pub use walking::{core_report_of, walks_of_threads};

@@ -6,7 +6,8 @@ ghost use Rattle.stack_report.specs.Refusals.{refused_line};
 ghost use Rattle.stack_snapshot.specs.Cores.{core_space_of, threads_of};
 ghost use Rattle.unwind_arch.specs.declared.x86_64.Context.{Context};
 ghost use Rattle.core_walks.specs.Lines.{thread_text, threads_text, core_report_of};
-ghost use Rattle.core_walks.specs.Lines.{stopped_text, text_before, text_after};
+ghost use Rattle.core_walks.specs.Lines.{lines_after, lines_before, stopped_text, text_after};
+ghost use Rattle.core_walks.specs.Lines.{text_before};
 ghost use Rattle.core_walks.specs.ThreadLines.{thread_lines};
 ghost use Rattle.memory_image.specs.Image.{IsLaidOut};
 ghost use Rattle.unwind_definitions.specs.State.{State};
@@ -91,6 +92,43 @@ fn threads_report(
         index += 1;
     }
     Ok(report)
+}
+
+/// The walks of threads over a space, each from the instruction at which the thread was stopped.
+///
+/// # Errors
+///
+/// `AllocError` where memory ran out.
+pub fn walks_of_threads(
+    alloc: Global,
+    space: &Space<'_>,
+    threads: Threads<'_>,
+    limit: u32,
+) -> Result<Report, AllocError>
+    ensures text { IfOk result (λ report.
+        report ≡ threads_text space.now limit 0 (threads_left threads.entry)) }
+    // Where a described function was stopped at an instruction, and its caller begins a described
+    // chain that the limit has room for, a thread's lines are those of that state and of the chain.
+    ensures stopped { IfOk result (λ report. (index : ℕ) (thread : Context)
+        (functions : List Function) (s : State) (call : Call) (calls : List Call) →
+        slice_get (threads_left threads.entry) index ≡ Some thread →
+        StartsStopped space.now thread limit functions s call calls →
+        report ≡ lines_before space.now limit (threads_left threads.entry) index
+        ++ stopped_text index s (call ∷ calls)
+        ++ lines_after space.now limit (threads_left threads.entry) index) }
+    // Where it begins a stack of each of whose frames it is known how its caller's state follows,
+    // they are those of the stack.
+    ensures known { IfOk result (λ report. (index : ℕ) (thread : Context) (s : State)
+        (callers : List State) →
+        slice_get (threads_left threads.entry) index ≡ Some thread →
+        StartsKnownStack space.now thread limit true s callers →
+        report ≡ lines_before space.now limit (threads_left threads.entry) index
+        ++ thread_lines index (s ∷ callers)
+        ++ lines_after space.now limit (threads_left threads.entry) index) }
+{
+    // No two of its modules share an address, as a space's type says.
+    let _ = space.image();
+    threads_report(alloc, space, threads, limit)
 }
 
 /// The walks of all threads of a core file, each from the instruction at which the thread was stopped.

@@ -1,0 +1,24 @@
+//! Writes the walks of all threads of a core file, whose path is its word. The frame tables are those
+//! of the files that the core says were mapped. docs/FORMATS.md has the lines.
+#![tactic(auto)]
+
+mod lines;
+mod running;
+mod sample;
+mod system;
+
+use crate::running::run;
+use crate::system::SystemFiles;
+use command_ends::{Status, end_program, words_of};
+use memory_image::StdoutSink;
+use std::process::ExitCode;
+
+fn main(rt: HostRuntime) -> ExitCode {
+    let Ok(words) = words_of(&rt) else {
+        return end_program(&rt, "core_stacks", Status::Memory);
+    };
+    let mut output = StdoutSink::new(rt.stdout());
+    let files = SystemFiles::new(&rt);
+    let status = run(rt.alloc(), &words, &files, &mut output);
+    end_program(&rt, "core_stacks", status)
+}

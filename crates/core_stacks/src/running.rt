@@ -1,0 +1,214 @@
+// One run of the program, from its words and the files to its output.
+ghost use Rattle.std.specs.Prelude.{◌≡◌, ◌≢◌, ◌⊎◌, [], ℕ, List, None, IfOk, IsErrOf};
+ghost use Rattle.std.specs.Prelude.{map, string_bytes, ◌∷◌, Ok, Some, slice_get, true};
+ghost use Rattle.std.specs.Option.{option_map};
+ghost use Rattle.std.specs.Io.KnownBytes.{Appends};
+ghost use Rattle.memory_image.specs.Ends.{Rose};
+ghost use Rattle.core_file.specs.Left.{threads_left};
+ghost use Rattle.core_file.specs.CoreValue.{CoreValue, core_of};
+ghost use Rattle.core_file.specs.MappedParts.{mapped_parts};
+ghost use Rattle.core_file.specs.MappedViews.{parts_left};
+ghost use Rattle.unwind_arch.specs.declared.x86_64.Context.{Context};
+ghost use Rattle.unwind_definitions.specs.State.{State};
+ghost use Rattle.unwind_definitions.specs.Function.{Function};
+ghost use Rattle.unwind_definitions.specs.Chain.{Call};
+ghost use Rattle.stack_steps.specs.Stopped.{StartsStopped};
+ghost use Rattle.stack_walks.specs.KnownWalks.{StartsKnownStack};
+ghost use Rattle.core_walks.specs.Lines.{stopped_text, threads_text};
+ghost use Rattle.core_walks.specs.ThreadLines.{thread_lines};
+ghost use Rattle.command_ends.specs.Verdicts.{IsReadyOrFailed, Tells, verdict};
+ghost use Rattle.mapped_modules.specs.Loading.{AreTold, loaded_value};
+ghost use Rattle.mapped_modules.specs.Spaces.{space_of_core};
+ghost use Rattle.core_stacks.specs.Due.{Asks, bytes_due, core_due, core_named, due_of};
+ghost use Rattle.core_stacks.specs.Due.{lines_with, modules_in, most_states, space_in};
+
+use crate::lines::usage_line;
+use command_ends::{Answer, Status, Words, silent_answer, text_answer, write_answer};
+use core_file::{CoreFile, MappedParts, mapped_parts};
+use core_walks::{core_refused_line, walks_of_threads};
+use mapped_modules::{Files, LoadedModule, PartError, loaded_modules, space_of_core};
+use memory_image::Sink;
+use stack_report::{Report, line_of};
+use std::alloc::{AllocError, Global};
+
+/// The most states of a walk.
+const MOST_STATES: u32 = 1_048_576;
+
+/// The most bytes of a core.
+const MOST_BYTES: u64 = 1 << 32;
+
+/// The walks of a core's threads, over its memory and these modules.
+fn walks_over(
+    alloc: Global,
+    core: &CoreFile<'_>,
+    loaded: &[LoadedModule],
+) -> Result<Report, AllocError>
+    ensures { IfOk result (λ report. report ≡ threads_text
+        (space_of_core (map loaded_value loaded.now) core.now.segments) most_states 0
+        core.now.threads) }
+{
+    let space = space_of_core(alloc, loaded, core)?;
+    walks_of_threads(alloc, &space, core.threads(), MOST_STATES)
+}
+
+/// The modules of the files that a core says were mapped, none where it doesn't say.
+fn modules_in<F: Files>(
+    alloc: Global,
+    files: &F,
+    parts: Option<MappedParts<'_>>,
+) -> Result<Vec<LoadedModule>, PartError>
+    ensures told { (all : List ℕ → List ℕ) → AreTold (F.content files.now) all →
+        IfOk result (λ loaded. map loaded_value loaded.items ≡
+        modules_in all (option_map parts_left parts.entry)) }
+    ensures fault { IsErrOf result PartError.Fault → F.may_fail files.now }
+{
+    match parts {
+        Some(parts) => loaded_modules(alloc, files, parts),
+        None => Ok(Vec::new(alloc)),
+    }
+}
+
+/// The answer where a file can't be read.
+fn failed_answer(alloc: Global, error: PartError) -> Answer
+    ensures text { result.text ≡ [] }
+    ensures fault { result.status ≡ Status.ReadFault → error ≡ PartError.Fault }
+    ensures kind { (result.status ≡ Status.ReadFault) ⊎ (result.status ≡ Status.Memory) }
+{
+    match error {
+        PartError::Fault => silent_answer(alloc, Status::ReadFault),
+        PartError::Memory => silent_answer(alloc, Status::Memory),
+    }
+}
+
+/// The answer to a core.
+fn walked_answer<F: Files>(alloc: Global, files: &F, bytes: &[u8], core: &CoreFile<'_>) -> Answer
+    requires { core_of bytes.now ≡ Ok core.now }
+    ensures told { (all : List ℕ → List ℕ) → AreTold (F.content files.now) all →
+        IsReadyOrFailed (core_due all bytes.now (core_of bytes.now)) result.status result.text }
+    ensures silent { (result.status ≡ Status.Memory) ⊎ (result.status ≡ Status.ReadFault) →
+        result.text ≡ [] }
+    ensures fault { result.status ≡ Status.ReadFault → F.may_fail files.now }
+    ensures kind { (result.status ≢ Status.Usage) × (result.status ≢ Status.WriteFault) }
+{
+    match modules_in(alloc, files, mapped_parts(bytes)) {
+        Ok(loaded) => text_answer(alloc, Status::Done, walks_over(alloc, core, &loaded)),
+        Err(error) => failed_answer(alloc, error),
+    }
+}
+
+/// The answer to bytes that are read as a core.
+fn core_answer<F: Files>(alloc: Global, files: &F, bytes: &[u8]) -> Answer
+    ensures told { (all : List ℕ → List ℕ) → AreTold (F.content files.now) all →
+        IsReadyOrFailed (core_due all bytes.now (core_of bytes.now)) result.status result.text }
+    ensures silent { (result.status ≡ Status.Memory) ⊎ (result.status ≡ Status.ReadFault) →
+        result.text ≡ [] }
+    ensures fault { result.status ≡ Status.ReadFault → F.may_fail files.now }
+    ensures kind { (result.status ≢ Status.Usage) × (result.status ≢ Status.WriteFault) }
+{
+    match CoreFile::parse(bytes) {
+        Ok(core) => walked_answer(alloc, files, bytes, &core),
+        Err(error) => text_answer(alloc, Status::Refused, core_refused_line(alloc, error)),
+    }
+}
+
+/// The answer to the bytes of a file, of which one more than are read as a core may be there.
+fn bytes_answer<F: Files>(alloc: Global, files: &F, bytes: &[u8]) -> Answer
+    ensures told { (all : List ℕ → List ℕ) → AreTold (F.content files.now) all →
+        IsReadyOrFailed (bytes_due all bytes.now) result.status result.text }
+    ensures silent { (result.status ≡ Status.Memory) ⊎ (result.status ≡ Status.ReadFault) →
+        result.text ≡ [] }
+    ensures fault { result.status ≡ Status.ReadFault → F.may_fail files.now }
+    ensures kind { (result.status ≢ Status.Usage) × (result.status ≢ Status.WriteFault) }
+{
+    if bytes.len() as u64 > MOST_BYTES {
+        return text_answer(alloc, Status::TooLong, line_of(alloc, "too long"));
+    }
+    core_answer(alloc, files, bytes)
+}
+
+/// The answer to the file of a path.
+#[tactic(auto, using(crate::proofs::Cutting::cut_due))]
+fn file_answer<F: Files>(alloc: Global, files: &F, path: &[u8]) -> Answer
+    ensures told { (all : List ℕ → List ℕ) → AreTold (F.content files.now) all →
+        IsReadyOrFailed (bytes_due all (all path.now)) result.status result.text }
+    ensures silent { (result.status ≡ Status.Memory) ⊎ (result.status ≡ Status.ReadFault) →
+        result.text ≡ [] }
+    ensures fault { result.status ≡ Status.ReadFault → F.may_fail files.now }
+    ensures kind { (result.status ≢ Status.Usage) × (result.status ≢ Status.WriteFault) }
+{
+    match files.read_part(alloc, path, 0, MOST_BYTES + 1) {
+        Ok(bytes) => bytes_answer(alloc, files, &bytes),
+        Err(error) => failed_answer(alloc, error),
+    }
+}
+
+fn core_in(words: &[String]) -> Option<&str>
+    ensures { option_map (λ path. path.now) result ≡
+        core_named (map (λ word. string_bytes word) words.now) }
+{
+    match words {
+        [path] => Some(path.as_str()),
+        _ => None,
+    }
+}
+
+/// The path of the core that the words name.
+fn core_named(words: &Words) -> Option<&str>
+    ensures { option_map (λ path. path.now) result ≡ core_named words.now }
+{
+    core_in(words.as_slice())
+}
+
+fn decide<F: Files>(alloc: Global, words: &Words, files: &F) -> Answer
+    ensures told { (all : List ℕ → List ℕ) → AreTold (F.content files.now) all →
+        IsReadyOrFailed (due_of all words.now) result.status result.text }
+    ensures silent { (result.status ≡ Status.Memory) ⊎ (result.status ≡ Status.ReadFault) →
+        result.text ≡ [] }
+    ensures fault { result.status ≡ Status.ReadFault → F.may_fail files.now }
+    ensures kind { result.status ≢ Status.WriteFault }
+    ensures usage { result.status ≡ Status.Usage → core_named words.now ≡ None }
+{
+    match core_named(words) {
+        Some(path) => file_answer(alloc, files, path.as_bytes()),
+        None => text_answer(alloc, Status::Usage, usage_line(alloc)),
+    }
+}
+
+/// Writes the walks of all threads of the core file that the words name to the output, or why there are none.
+///
+/// The core is read whole, but for what follows its 4,294,967,297th byte, and of each file that it says
+/// was mapped the front and the segment that has its frame table. Running out of memory is `Memory`.
+pub fn run<F: Files, O: Sink>(alloc: Global, words: &Words, files: &F, output: &mut O) -> Status
+    // What is due for the words and for what the files have is answered and written.
+    ensures told { (all : List ℕ → List ℕ) → AreTold (F.content files.now) all →
+        Tells (due_of all words.now) result (O.holds output.old) (O.holds output.new) }
+    // Where a thread of a core was stopped in a described function, and its caller begins a described
+    // chain that the limit has room for, its lines are those of that state and of the chain.
+    ensures stopped { (all : List ℕ → List ℕ) → AreTold (F.content files.now) all →
+        (bytes : List ℕ) (core : CoreValue) (index : ℕ) (thread : Context)
+        (functions : List Function) (s : State) (call : Call) (calls : List Call) →
+        Asks all words.now bytes core → slice_get core.threads index ≡ Some thread →
+        StartsStopped (space_in all bytes core) thread most_states functions s call calls →
+        Tells (verdict Status.Done (lines_with (space_in all bytes core) core index
+        (stopped_text index s (call ∷ calls)))) result (O.holds output.old) (O.holds output.new) }
+    // Where it begins a stack of each of whose frames it is known how its caller's state follows, in
+    // an ELF module by facts that its tables say, at any address, they are those of the stack.
+    ensures known { (all : List ℕ → List ℕ) → AreTold (F.content files.now) all →
+        (bytes : List ℕ) (core : CoreValue) (index : ℕ) (thread : Context) (s : State)
+        (callers : List State) →
+        Asks all words.now bytes core → slice_get core.threads index ≡ Some thread →
+        StartsKnownStack (space_in all bytes core) thread most_states true s callers →
+        Tells (verdict Status.Done (lines_with (space_in all bytes core) core index
+        (thread_lines index (s ∷ callers)))) result (O.holds output.old) (O.holds output.new) }
+    // Words that don't name one core are answered so, and no others.
+    ensures usage { result ≡ Status.Usage → core_named words.now ≡ None }
+    // Without memory, and after a fault of a file, nothing is written; a fault is answered only where
+    // a read may fail, or one of the output rose.
+    ensures silent { (result ≡ Status.Memory) ⊎ (result ≡ Status.ReadFault) →
+        Appends (O.holds output.old) (O.holds output.new) [] }
+    ensures fault { result ≡ Status.ReadFault → F.may_fail files.now }
+    ensures write { result ≡ Status.WriteFault → Rose (O.faults output.old) (O.faults output.new) }
+{
+    let answer = decide(alloc, words, files);
+    write_answer(output, answer.status, answer.text.bytes())
+}

@@ -1,0 +1,20 @@
+//! The modules of a core file: of the files that were mapped as its process ended, which parts are
+//! code, and where their frame tables lie. The files are read in parts: of each its front, which has
+//! the program headers, and the segment that has the frame table.
+//!
+//! `loaded_modules` reads them, and `space_of_core` makes of them and of the core's memory what its
+//! threads are walked over.
+//!
+//! Sources: the System V gABI for ELF headers and program headers, and the LSB for `PT_GNU_EH_FRAME`.
+#![tactic(auto)]
+
+mod elf;
+mod files;
+mod laws;
+mod loading;
+mod places;
+mod spaces;
+
+pub use files::{Files, PartError};
+pub use loading::{LoadedModule, loaded_modules};
+pub use spaces::space_of_core;
