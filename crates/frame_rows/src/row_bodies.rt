@@ -15,10 +15,13 @@ use std::marker::Model;
 use unwind_arch::Register;
 use unwind_definitions::Error;
 
-// For how many bodies there is a place to be known by, at first and at most.
-const FEWEST: usize = 16;
+// For how many bodies there is a place to be known by: at first, and then.
+const FEW: usize = 32;
 
-const MOST: usize = 4096;
+const MANY: usize = 4096;
+
+// At how many places, one after another, a body may be known.
+const TURNS: usize = 4;
 
 // 2^64 by the golden ratio: each bit of a word has its part in the high bits of its product with this.
 const SPREAD: u64 = 0x9e37_79b9_7f4a_7c15;
@@ -41,11 +44,12 @@ pub(crate) struct RowBodies<'a> {
     rules: Vec<(Register, RegisterRule<'a>)>,
 }
 
-/// Where bodies stand, by a number that is made of what they say: the last one of each number.
+/// Where bodies stand, by a number that is made of what they say.
 ///
 /// It serves while bodies are kept, and isn't part of them.
 #[derive(Drop)]
 pub(crate) struct KnownBodies {
+    // each after one more, as 0 is none
     places: Vec<usize>,
 }
 
@@ -60,23 +64,34 @@ impl KnownBodies {
     // Where a body of a number stands that may say what is sought.
     fn get(&self, number: usize) -> Option<usize> {
         let index = number.checked_rem(self.places.len())?;
-        self.places.get(index).copied()
+        self.places.get(index)?.checked_sub(1)
     }
 
-    // Notes the place of a body of a number. There are at least twice as many numbers as bodies, up
-    // to some thousands: where they become more, those so far are forgotten.
-    #[inline(never)]
+    // Notes the place of a body of a number, at the first free place from that number on. Where more
+    // are needed, those so far are forgotten.
     fn note(&mut self, number: usize, place: usize) -> Result<(), AllocError> {
         let count = self.places.len();
-        if count < MOST && count / 2 <= place {
+        if count < MANY && count / 2 <= place {
             self.places.clear();
-            self.places.resize(count.saturating_mul(4).max(FEWEST), 0)?;
+            self.places.resize(if count == 0 { FEW } else { MANY }, 0)?;
         }
-        let count = self.places.len();
-        if count > 0 {
-            self.places[number % count] = place;
+        let index = self.free(number);
+        if let Some(noted) = self.places.get_mut(index) {
+            *noted = place.saturating_add(1);
         }
         Ok(())
+    }
+
+    // The first free place from a number on, or that of the number.
+    fn free(&self, number: usize) -> usize {
+        let count = self.places.len().max(1);
+        for turn in 0..TURNS {
+            let index = number.wrapping_add(turn) % count;
+            if self.places.get(index) == Some(&0) {
+                return index;
+            }
+        }
+        number % count
     }
 }
 
@@ -143,6 +158,34 @@ impl<'a> RowBodies<'a> {
                 return Ok(last);
             }
         }
+        self.keep_other(known, number, cfa, rules, saved_args_size)
+    }
+
+    // The same where it isn't the first one of its number. Not inlined, as it is for few rows of a
+    // large table.
+    #[inline(never)]
+    fn keep_other(
+        &mut self,
+        known: &mut KnownBodies,
+        number: usize,
+        cfa: Result<CfaRule<'a>, Error>,
+        rules: &[(Register, RegisterRule<'a>)],
+        saved_args_size: u64,
+    ) -> Result<usize, AllocError>
+        requires ascending { AscendsFrom 0 (map entry_of rules.now) }
+        requires few { length rules.now ≤ 32 }
+        ensures grows { Grows self.old self.new }
+        ensures says { IfOk result (λ place. Says self.new place
+            (kept_answer cfa.entry (map entry_of rules.now) saved_args_size)) }
+    {
+        for turn in 1..TURNS {
+            let Some(other) = known.get(number.wrapping_add(turn)) else {
+                break;
+            };
+            if self.says(other, cfa, rules, saved_args_size) {
+                return Ok(other);
+            }
+        }
         let place = self.bodies.len();
         self.add(cfa, rules, saved_args_size)?;
         known.note(number, place)?;
@@ -150,6 +193,7 @@ impl<'a> RowBodies<'a> {
     }
 
     // Whether the body at a place says this.
+    #[inline(always)]
     fn says(
         &self,
         place: usize,
@@ -171,8 +215,7 @@ impl<'a> RowBodies<'a> {
         }
     }
 
-    // Adds a body. Not inlined, as it is for few rows of a large table.
-    #[inline(never)]
+    // Adds a body.
     fn add(
         &mut self,
         cfa: Result<CfaRule<'a>, Error>,
@@ -250,6 +293,7 @@ fn is_same_cfa(a: Result<CfaRule<'_>, Error>, b: Result<CfaRule<'_>, Error>) -> 
 }
 
 // Whether two lists of rules are the same, and none is an expression.
+#[inline(always)]
 fn are_same_rules(a: &[(Register, RegisterRule<'_>)], b: &[(Register, RegisterRule<'_>)]) -> bool
     ensures { result ≡ true → map entry_of a.now ≡ map entry_of b.now }
 {
