@@ -30,8 +30,8 @@ none_some f is = cc
 
 module _ (image : List Span) (t : FrameTable) (functions : List Function) (claims : List Claim) (found : Findings) (f : AreFound image t functions claims found) where
   module _ (none : found.extra ≡ None) where
-    so_far : StandSoFar image t functions claims (fdes_of f.entries) found.highest found.are_listed
-    so_far = subst (λ (o : Option ℕ). MatchOption o (StandSoFar image t functions claims (fdes_of f.entries) found.highest found.are_listed) (λ start. IsFirstExtra t.bases t.entries functions start)) none f.tells
+    so_far : StandSoFar image t functions claims (fdes_of f.entries) found.highest found.listed
+    so_far = subst (λ (o : Option ℕ). MatchOption o (StandSoFar image t functions claims (fdes_of f.entries) found.highest found.listed) (λ start. IsFirstExtra t.bases t.entries functions start)) none f.tells
 
     pub apart : AllApart (fdes_of f.entries)
     apart = all_apart functions [] (fdes_of f.entries) so_far.stand
@@ -39,7 +39,7 @@ module _ (image : List Span) (t : FrameTable) (functions : List Function) (claim
     pub marks : AreMarked image t.bases (fdes_of f.entries) claims
     marks = so_far.marks
 
-    pub listed : SaysListed t.pairs t.entries.base (fdes_of f.entries) found.are_listed
+    pub listed : SaysListed t.pairs t.entries.base (fdes_of f.entries) found.listed
     listed = so_far.listed
 
     abbrev beside : AllStandBeside t.bases t.entries functions

@@ -7,7 +7,7 @@ use Rattle.unwind_definitions.specs.declared.error.Error.{Error as Fault}
 use Rattle.unwind_definitions.specs.Header.{PairTable, pair_at}
 use Rattle.unwind_definitions.specs.Module.{StartsAscend}
 use Rattle.unwind_laws.proofs.Signal.{ok_same}
-use Rattle.table_check.specs.Pairs.{AreRead, IsPlaceIn}
+use Rattle.table_check.specs.Pairs.{AreRead, AreReadSoFar, IsPlaceIn, LastIs}
 
 -- ---- a list that ascends
 
@@ -49,30 +49,18 @@ got_more P (q ∷ ps) p each here (suc k) d lt = got_more (λ n. P (suc n)) ps p
 -- ---- pairs that are read one by one
 
 module _ (t : PairTable) where
-  -- the pair before has the last start, and none starts above it
-  abbrev pub LastIs : ℕ → Option ℕ → List (ℕ × ℕ) → Type 0
-  LastIs i None ps = i ≡ 0
-  LastIs i (Some s) ps = (j : ℕ) × (place : ℕ) × (suc j ≡ i) × (pair_at t j ≡ Ok (s, place)) × AllByRecursion (λ (q : ℕ × ℕ). q.0 ≤ s) ps
-
-  pub record ReadSoFar (i : ℕ) (last : Option ℕ) : Type 0 where
-    pub pairs : List (ℕ × ℕ)
-    pub many : length pairs ≡ i
-    pub reads : (k : ℕ) (d : ℕ × ℕ) → k < length pairs → pair_at t k ≡ Ok (get_or pairs k d)
-    pub ascend : StartsAscend pairs
-    pub last_is : LastIs i last pairs
-
-  pub begins : ReadSoFar 0 None
+  pub begins : AreReadSoFar t 0 None
   begins = record { pairs = []; many = refl; reads = λ k d lt. absurd (omega (arith, lt)); ascend = tt; last_is = refl }
 
   none_before : (ps : List (ℕ × ℕ)) (p : ℕ × ℕ) → length ps ≡ 0 → AllByRecursion (λ (q : ℕ × ℕ). q.0 < p.0) ps
   none_before [] p is = tt
   none_before (q ∷ ps) p is = absurd (omega arith)
 
-  before_it : (i : ℕ) (last : Option ℕ) (ps : List (ℕ × ℕ)) (p : ℕ × ℕ) → length ps ≡ i → LastIs i last ps → MatchOption last (Unit {0}) (λ s. s < p.0) → AllByRecursion (λ (q : ℕ × ℕ). q.0 < p.0) ps
+  before_it : (i : ℕ) (last : Option ℕ) (ps : List (ℕ × ℕ)) (p : ℕ × ℕ) → length ps ≡ i → LastIs t i last ps → MatchOption last (Unit {0}) (λ s. s < p.0) → AllByRecursion (λ (q : ℕ × ℕ). q.0 < p.0) ps
   before_it i None ps p many is above = none_before ps p (many ∙ is)
   before_it i (Some s) ps p many is above = all_below s p.0 ps above is.4
 
-  pub more : (i : ℕ) (last : Option ℕ) (p : ℕ × ℕ) → ReadSoFar i last → pair_at t i ≡ Ok p → MatchOption last (Unit {0}) (λ s. s < p.0) → ReadSoFar (i + 1) (Some p.0)
+  pub more : (i : ℕ) (last : Option ℕ) (p : ℕ × ℕ) → AreReadSoFar t i last → pair_at t i ≡ Ok p → MatchOption last (Unit {0}) (λ s. s < p.0) → AreReadSoFar t (i + 1) (Some p.0)
   more i last p r at above =
       let below = before_it i last r.pairs p r.many r.last_is above in
       let long = length-append r.pairs (p ∷ []) in let many = r.many in
@@ -85,7 +73,7 @@ module _ (t : PairTable) where
         last_is = (i, p.1, next, at, all_up_to r.pairs p below);
       }
 
-  pub all_read : (i : ℕ) (last : Option ℕ) → t.count ≤ i → i ≤ t.count → ReadSoFar i last → (ps : List (ℕ × ℕ)) × AreRead t ps
+  pub all_read : (i : ℕ) (last : Option ℕ) → t.count ≤ i → i ≤ t.count → AreReadSoFar t i last → (ps : List (ℕ × ℕ)) × AreRead t ps
   all_read i last done within r = (r.pairs, record { many = r.many ∙ (let a : i ≡ t.count = omega arith in a); reads = r.reads; ascend = r.ascend })
 
   module _ (ps : List (ℕ × ℕ)) (read : AreRead t ps) where
@@ -104,7 +92,7 @@ module _ (t : PairTable) where
     is_pair k p d lt at = ok_same (get_or ps k d) p (sym (read.reads k d (there k lt)) ∙ at)
 
     -- each is above the one before
-    pub above_not : (i : ℕ) (last : Option ℕ) (p : ℕ × ℕ) → i < t.count → ReadSoFar i last → pair_at t i ≡ Ok p → (MatchOption last (Unit {0}) (λ s. s < p.0) → ⊥) → ⊥
+    pub above_not : (i : ℕ) (last : Option ℕ) (p : ℕ × ℕ) → i < t.count → AreReadSoFar t i last → pair_at t i ≡ Ok p → (MatchOption last (Unit {0}) (λ s. s < p.0) → ⊥) → ⊥
     above_not i None p lt r at below = below tt
     above_not i (Some s) p lt r at below =
         let l = r.last_is in

@@ -102,11 +102,6 @@ pub none_about : (high : ℕ) (a o : Option ℕ) → IsAboutOption high a o → 
 none_about high None o about is = about_none high o about
 none_about high (Some k) o about is = absurd cc
 
-pub some_about : (high k : ℕ) (a o : Option ℕ) → IsAboutOption high a o → a ≡ Some k → (n : ℕ) × (o ≡ Some n) × IsAbout high k n
-some_about high k None o about is = absurd cc
-some_about high k (Some j) None about is = absurd about
-some_about high k (Some j) (Some n) about is = let same : j ≡ k = cc in (n, refl, subst (λ x. IsAbout high x n) same about)
-
 weaker : (k n : ℕ) → IsAbout (2 ^ 100) k n → IsAbout (2 ^ 99) k n
 weaker k n (inl same) = inl same
 weaker k n (inr high) = inr (let a : 2 ^ 100 ≤ k = high.0 in let b : 2 ^ 100 ≤ n = high.1 in (omega (arith, a), omega (arith, b)))

@@ -24,6 +24,7 @@ mod Marking
 mod HeaderForms
 mod OneNoted
 mod Ascending
+mod Listed
 mod NamedTables
 mod Concluding
 mod Once

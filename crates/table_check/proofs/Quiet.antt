@@ -1,14 +1,14 @@
 -- Addresses at which the same is asked, and descriptions that have all that is asked.
-use Rattle.std.proofs.Common.{◌≡◌, ℕ, ◌+◌, ◌-◌, ◌^◌, ◌<◌, ◌≤◌, true, cond, List, [], ◌∷◌, Result, Err, refl, sym, ap, subst, ◌∙◌, inl, inr, arith}
-use Rattle.std.specs.Prelude.{◌⊎◌, ◌&&◌, ◌||◌, IsTrue, min, nat_le, nat_lt}
-use Rattle.std.specs.List.{filter, list_any}
+use Rattle.std.proofs.Common.{◌≡◌, ℕ, ◌+◌, ◌<◌, ◌≤◌, true, cond, List, [], ◌∷◌, Result, Err, refl, sym, ap, subst, ◌∙◌, inl, inr, arith}
+use Rattle.std.specs.Prelude.{◌⊎◌, ◌&&◌, ◌||◌, IsTrue, nat_le, nat_lt}
+use Rattle.std.specs.List.{list_any}
 use Rattle.std.proofs.lemmas.Bool.{le-leb, lt-leb, lt-ltb, le-ltb, leb-true, ltb-true, or_cases, and_parts}
 use Rattle.unwind_definitions.specs.declared.error.Error.{Error as Fault}
 use Rattle.unwind_definitions.specs.declared.error.Error.TheVariants.{NoUnwindInfoForAddress}
 use Rattle.unwind_definitions.specs.Pointers.{Bases}
 use Rattle.unwind_definitions.specs.Entries.{Fde}
 use Rattle.unwind_definitions.specs.Row.{RowInstructions, row_at}
-use Rattle.unwind_definitions.specs.Prologue.{PrologueStep, SystemV, steps_of}
+use Rattle.unwind_definitions.specs.Prologue.{SystemV}
 use Rattle.unwind_definitions.specs.Function.{AreWithin, Function, IsFunction, Range, first_body, first_from, in_body, in_range, last_end}
 use Rattle.unwind_definitions.specs.DescribedRows.{DescribesRows, HasRow}
 use Rattle.eh_frame.specs.Walked.{due_row}

@@ -23,6 +23,3 @@ module _ (e : ℕ × Rule) (es : List (ℕ × Rule)) where
       left : (b : Bool) → (e.0 == c) ≡ b → rule_in es c ≡ None
       left true is = absurd (let h : Some e.1 ≡ None = sym (rule_here c (eqb-true e.0 c is)) ∙ none c other in cc)
       left false is = sym (ap (λ b. cond b (Some e.1) (rule_in es c)) is) ∙ none c other
-
-  pub not_none : may_have_rule e.0 ≡ false → HasNoOthers (e ∷ es) → ⊥
-  not_none may none = let h : Some e.1 ≡ None = sym (rule_here e.0 refl) ∙ none e.0 may in cc

@@ -1,5 +1,5 @@
 -- What the entries of a frame table tell, beside functions that are claimed. No public clause cites this.
-use Rattle.std.specs.Prelude.{◌≡◌, ◌⊎◌, ℕ, Bool, List, [], Option, Some, None, Ok, length, MatchOption}
+use Rattle.std.specs.Prelude.{◌≡◌, ◌⊎◌, ℕ, List, [], Option, Some, None, Ok, length, MatchOption}
 use Rattle.std.specs.List.{AllByRecursion}
 use Rattle.memory_image.specs.Image.{Span}
 use Rattle.unwind_definitions.specs.Entries.{Entry, Fde, entry_at}
@@ -9,6 +9,7 @@ use Rattle.unwind_definitions.specs.Scan.{fdes_of}
 use Rattle.fde_finders.specs.FrameTables.{FrameTable}
 use Rattle.table_check.specs.declared.claims.Claim.{Claim}
 use Rattle.table_check.specs.declared.findings.Findings.{Findings}
+use Rattle.table_check.specs.declared.header_tables.ListedSoFar.{ListedSoFar}
 use Rattle.table_check.specs.declared.reason.Reason.{Reason}
 use Rattle.table_check.specs.Descriptions.{AllDescribed}
 use Rattle.table_check.specs.Marks.{AreMarked}
@@ -18,15 +19,15 @@ use Rattle.table_check.specs.Scanned.{AllMayStand, EndsBy, IsFirstExtra, StandBe
 use Rattle.table_check.specs.Verdicts.{RefusesDescriptions}
 
 -- descriptions that stand beside each other and functions, and what is noted of them
-pub record StandSoFar (image : List Span) (t : FrameTable) (functions : List Function) (claims : List Claim) (fdes : List Fde) (highest : ℕ) (are_listed : Bool) : Type 0 where
+pub record StandSoFar (image : List Span) (t : FrameTable) (functions : List Function) (claims : List Claim) (fdes : List Fde) (highest : ℕ) (so_far : ListedSoFar) : Type 0 where
   pub stand : AllMayStand functions [] fdes
   pub ends : AllByRecursion (EndsBy highest) fdes
   pub marks : AreMarked image t.bases fdes claims
-  pub listed : SaysListed t.pairs t.entries.base fdes are_listed
+  pub listed : SaysListed t.pairs t.entries.base fdes so_far
 
 -- all descriptions so far stand so; or the first that doesn't starts at an address
 abbrev pub Tells : List Span → FrameTable → List Function → List Claim → List Fde → Findings → Type 0
-Tells image t functions claims fdes found = MatchOption found.extra (StandSoFar image t functions claims fdes found.highest found.are_listed) (λ start. IsFirstExtra t.bases t.entries functions start)
+Tells image t functions claims fdes found = MatchOption found.extra (StandSoFar image t functions claims fdes found.highest found.listed) (λ start. IsFirstExtra t.bases t.entries functions start)
 
 -- all entries read and have short lengths, and this is what they tell
 pub record AreFound (image : List Span) (t : FrameTable) (functions : List Function) (claims : List Claim) (found : Findings) : Type 0 where

@@ -1,9 +1,9 @@
 -- What is asked of the row at each address of a function. No public clause cites this.
-use Rattle.std.specs.Prelude.{◌≡◌, ◌⊎◌, ℕ, ◌+◌, ◌-◌, ◌<◌, ◌≤◌, Bool, true, false, List, Result, Ok, IsTrue, IsFalse}
+use Rattle.std.specs.Prelude.{◌≡◌, ◌⊎◌, ℕ, ◌-◌, ◌<◌, ◌≤◌, Bool, true, false, List, Result, Ok, IsTrue, IsFalse}
 use Rattle.std.specs.List.{AllByRecursion, list_any}
 use Rattle.unwind_definitions.specs.declared.error.Error.{Error as Fault}
 use Rattle.unwind_definitions.specs.Row.{RowInstructions}
-use Rattle.unwind_definitions.specs.Prologue.{PrologueStep, steps_of}
+use Rattle.unwind_definitions.specs.Prologue.{steps_of}
 use Rattle.unwind_definitions.specs.Function.{Function, Range, first_body, first_from, in_body, in_range}
 use Rattle.unwind_definitions.specs.DescribedRows.{IsBodyRow, IsOutermostRow, IsPrologueRow, ended_by}
 use Rattle.table_check.specs.declared.programs.Place.{Place}

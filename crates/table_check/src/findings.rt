@@ -2,10 +2,11 @@
 //! `.eh_frame`.
 
 ghost use Rattle.std.specs.Prelude.{◌≡◌, ◌+◌, ◌<◌, ◌≤◌, ◌^◌, ◌∷◌, ◌++◌, ℕ, List, [], IfErr, IfOk};
-ghost use Rattle.std.specs.Prelude.{None, Ok, Some, length, map, true};
+ghost use Rattle.std.specs.Prelude.{None, Ok, Some, length, map};
 ghost use Rattle.std.specs.List.{AllByRecursion};
 ghost use Rattle.unwind_definitions.specs.Entries.{AFde, Entry as Described, entry_at};
 ghost use Rattle.unwind_definitions.specs.Function.{IsFunction};
+ghost use Rattle.unwind_definitions.specs.Header.{PairTable};
 ghost use Rattle.unwind_definitions.specs.Prologue.{SystemV};
 ghost use Rattle.unwind_definitions.specs.Scan.{fdes_of};
 ghost use Rattle.encoded_pointers.specs.PointerViews.{bases_of};
@@ -13,13 +14,14 @@ ghost use Rattle.eh_frame.specs.EntryViews.{entry_of, fde_of, table_of};
 ghost use Rattle.fde_finders.specs.NamedTables.{named_of};
 ghost use Rattle.table_check.specs.ClaimViews.{function_of};
 ghost use Rattle.table_check.specs.Findings.{AreFound, Tells};
+ghost use Rattle.table_check.specs.Pairs.{IsListedSoFar};
 ghost use Rattle.table_check.specs.Ranges.{AreInOrder};
 ghost use Rattle.table_check.specs.Scanned.{IsFirstRefused, ReadBefore};
 
 use crate::claims::Claim;
 use crate::entries::is_short;
 use crate::extras::{first_ending_after_start, later_end, may_stand};
-use crate::header_tables::is_listed;
+use crate::header_tables::ListedSoFar;
 use crate::marks::{forget_descriptions, note};
 use eh_frame::{Entry, Fde, RowWalk};
 use fde_finders::NamedTable;
@@ -39,9 +41,8 @@ pub(crate) struct Findings {
     highest: u64,
     // which claim the next description is of, if they stand in the order of the claims
     next_claim: usize,
-    /// Whether each description has its pair in the table of a header, where there is one whose
-    /// pairs all read and ascend.
-    pub(crate) are_listed: bool,
+    /// How the table of a header lists them, where there is one.
+    pub(crate) listed: ListedSoFar,
 }
 
 /// Goes through the entries of a frame table once, and notes what its descriptions say of claims.
@@ -90,7 +91,7 @@ impl Findings {
         ensures entries { result.entries ≡ 0 }
         ensures descriptions { result.descriptions ≡ 0 }
         ensures extra { result.extra ≡ None }
-        ensures listed { result.are_listed ≡ true }
+        ensures listed { (t : PairTable) (frame : ℕ) → IsListedSoFar t frame [] result.listed }
     {
         Findings {
             entries: 0,
@@ -98,7 +99,7 @@ impl Findings {
             extra: None,
             highest: 0,
             next_claim: 0,
-            are_listed: true,
+            listed: ListedSoFar::none(),
         }
     }
 
@@ -121,6 +122,7 @@ impl Findings {
             self.old.descriptions + length (fdes_of (entry_of entry.now ∷ [])) }
         ensures fewer { self.new.descriptions ≤ self.new.entries }
         ensures tells { (before : List Described) (at next : ℕ) → length before ≡ self.old.entries →
+            length (fdes_of before) ≡ self.old.descriptions →
             ReadBefore (bases_of table.now.bases) (table_of table.now.frames) 0 before at →
             entry_at (bases_of table.now.bases) (table_of table.now.frames) at ≡
             Ok (Some (record { entry = entry_of entry.now; next = next })) →
@@ -154,6 +156,7 @@ impl Findings {
         ensures entries { self.new.entries ≡ self.old.entries }
         ensures descriptions { self.new.descriptions ≡ self.old.descriptions }
         ensures tells { (before : List Described) (at next : ℕ) → length before ≡ self.old.entries →
+            length (fdes_of before) ≡ self.old.descriptions →
             ReadBefore (bases_of table.now.bases) (table_of table.now.frames) 0 before at →
             entry_at (bases_of table.now.bases) (table_of table.now.frames) at ≡
             Ok (Some (record { entry = AFde (fde_of fde.now); next = next })) →
@@ -180,7 +183,7 @@ impl Findings {
             return;
         }
         self.next_claim = note(image, &table.bases, claims, fde, index, walk);
-        self.are_listed = self.are_listed & is_listed(table, fde, self.descriptions);
+        self.listed.take(table, fde, self.descriptions);
         self.highest = later_end(fde, highest);
     }
 }

@@ -1,12 +1,12 @@
 //! The table of a header beside the descriptions of a frame table. LSB, section on `.eh_frame_hdr`.
 
-ghost use Rattle.std.specs.Prelude.{◌≡◌, ◌==◌, ◌&&◌, ◌<◌, ℕ, List, MatchOption, Option, Some, true};
-ghost use Rattle.std.specs.Prelude.{length, take};
+ghost use Rattle.std.specs.Prelude.{◌≡◌, ◌==◌, ◌&&◌, ◌+◌, ◌++◌, ◌<◌, ◌∷◌, ℕ, List, [], MatchOption};
+ghost use Rattle.std.specs.Prelude.{Ok, Option, Some, false, length, take, true};
 ghost use Rattle.std.specs.Bool.{Decides};
 ghost use Rattle.std.specs.List.{Contains};
 ghost use Rattle.std.specs.Option.{option_map};
 ghost use Rattle.unwind_definitions.specs.Entries.{Fde as Description};
-ghost use Rattle.unwind_definitions.specs.Header.{PairTable};
+ghost use Rattle.unwind_definitions.specs.Header.{PairTable, pair_at};
 ghost use Rattle.unwind_definitions.specs.Module.{HeaderLists, header_form, pair_of};
 ghost use Rattle.eh_frame.specs.EntryViews.{fde_of, table_of};
 ghost use Rattle.eh_frame.specs.HeaderViews.{pairs_of};
@@ -14,12 +14,24 @@ ghost use Rattle.fde_finders.specs.FrameTables.{table_by_kind};
 ghost use Rattle.fde_finders.specs.NamedTables.{named_of};
 ghost use Rattle.table_check.specs.AllEntries.{AllApart};
 ghost use Rattle.table_check.specs.Modules.{tables_of};
-ghost use Rattle.table_check.specs.Pairs.{AreRead, IsPlaceIn, ListsAll, SaysListed};
+ghost use Rattle.table_check.specs.Pairs.{AreRead, AreReadSoFar, IsListedSoFar, IsPlaceIn, ListsAll};
+ghost use Rattle.table_check.specs.Pairs.{SaysListed};
 
 use crate::findings::Findings;
 use eh_frame::{Fde, HdrTable};
 use fde_finders::{FrameInfoKind, NamedTable};
 use memory_image::{MemoryImage, NoLedger, Steps};
+
+/// How the table of a header lists the descriptions of a frame table so far. With each description
+/// the table's next pair is read, once, which is the description's own where both stand in one order.
+#[derive(Clone, Copy)]
+pub(crate) struct ListedSoFar {
+    // the start in the last pair that was read
+    last_start: Option<u64>,
+    /// Whether as many pairs as there are descriptions read and ascend, and each description has its
+    /// own in the table.
+    pub(crate) are_listed: bool,
+}
 
 /// Whether the table of a module's header, where it has one, lists the descriptions of the frame
 /// table that the module names. What these tell is found.
@@ -33,7 +45,7 @@ pub(crate) fn lists_descriptions(
         table_by_kind text kind image.now ≡ Some (named_of table.now) → AllApart fdes →
         found.now.descriptions ≡ length fdes →
         SaysListed (option_map pairs_of table.now.pairs) (table_of table.now.frames).base fdes
-        found.now.are_listed →
+        found.now.listed →
         Decides result (HeaderLists image.now (tables_of kind) (table_of table.now.frames).base
         fdes) }
 {
@@ -55,31 +67,98 @@ fn has_form(header: &[u8]) -> bool
 // Whether the table of a header of that form lists the descriptions.
 fn lists_all(pairs: &Option<HdrTable<'_>>, found: &Findings) -> bool
     ensures { (frame : ℕ) (fdes : List Description) → found.now.descriptions ≡ length fdes →
-        SaysListed (option_map pairs_of pairs.now) frame fdes found.now.are_listed →
+        SaysListed (option_map pairs_of pairs.now) frame fdes found.now.listed →
         Decides result (ListsAll (option_map pairs_of pairs.now) frame fdes) }
 {
     match pairs {
         None => found.descriptions == 0,
-        Some(pairs) => pairs.len() == found.descriptions && ascends(pairs) && found.are_listed,
+        Some(pairs) => pairs.len() == found.descriptions && found.listed.are_listed,
     }
 }
 
-// Whether all pairs of a table read, and ascend by their starts.
-fn ascends(pairs: &HdrTable<'_>) -> bool
-    ensures { Decides result ((read : List (ℕ × ℕ)) × AreRead (pairs_of pairs.now) read) }
-{
-    let mut steps = Steps::new(NoLedger);
-    let mut last = None;
-    for i in 0..pairs.len() {
-        let Ok((start, _)) = pairs.entry(i, &mut steps) else {
+impl ListedSoFar {
+    /// That of no descriptions.
+    pub(crate) fn none() -> ListedSoFar
+        ensures { (t : PairTable) (frame : ℕ) → IsListedSoFar t frame [] result }
+    {
+        ListedSoFar {
+            last_start: None,
+            are_listed: true,
+        }
+    }
+
+    /// Takes the next description of the frame table, before which so many stand.
+    pub(crate) fn take(&mut self, table: &NamedTable<'_>, fde: &Fde<'_>, before: u64)
+        ensures { (fdes : List Description) → length fdes ≡ before →
+            SaysListed (option_map pairs_of table.now.pairs) (table_of table.now.frames).base fdes
+            self.old →
+            SaysListed (option_map pairs_of table.now.pairs) (table_of table.now.frames).base
+            (fdes ++ fde_of fde.now ∷ []) self.new }
+    {
+        if let Some(pairs) = &table.pairs {
+            let place = table.frames.address().wrapping_add(fde.offset());
+            self.take_pair(pairs, before, fde.initial_address(), place);
+        }
+    }
+
+    // The same by the table's pairs, and the pair that the description has to have.
+    fn take_pair(&mut self, pairs: &HdrTable<'_>, before: u64, start: u64, place: u64)
+        ensures { (frame : ℕ) (fdes : List Description) (fde : Description) →
+            length fdes ≡ before → pair_of frame fde ≡ (start, place) →
+            IsListedSoFar (pairs_of pairs.now) frame fdes self.old →
+            IsListedSoFar (pairs_of pairs.now) frame (fdes ++ fde ∷ []) self.new }
+    {
+        if self.are_listed {
+            self.are_listed = self.lists_next(pairs, before, start, place);
+        }
+    }
+
+    // Whether the pair at an index reads and starts above the last one, and the table has the pair of
+    // a start and a description's address: that one, or else it is found by halving.
+    fn lists_next(&mut self, pairs: &HdrTable<'_>, index: u64, start: u64, place: u64) -> bool
+        ensures yes { result ≡ true →
+            AreReadSoFar (pairs_of pairs.now) index self.old.last_start →
+            AreReadSoFar (pairs_of pairs.now) (index + 1) self.new.last_start
+            × ((read : List (ℕ × ℕ)) → AreRead (pairs_of pairs.now) read →
+            Contains read (start, place)) }
+        ensures no { result ≡ false →
+            AreReadSoFar (pairs_of pairs.now) index self.old.last_start →
+            index < (pairs_of pairs.now).count →
+            (read : List (ℕ × ℕ)) → AreRead (pairs_of pairs.now) read →
+            Contains read (start, place) → ⊥ }
+    {
+        let Some((first, found)) = self.next_pair(pairs, index) else {
             return false;
         };
-        if !is_above(start, last) {
-            return false;
+        if are_same(first, found, start, place) {
+            return true;
         }
-        last = Some(start);
+        has_pair(pairs, start, place)
     }
-    true
+
+    // The pair at an index, where it reads and starts above the last one.
+    fn next_pair(&mut self, pairs: &HdrTable<'_>, index: u64) -> Option<(u64, u64)>
+        ensures { AreReadSoFar (pairs_of pairs.now) index self.old.last_start →
+            MatchOption result
+            (index < (pairs_of pairs.now).count →
+            (read : List (ℕ × ℕ)) → AreRead (pairs_of pairs.now) read → ⊥)
+            (λ pair. (index < (pairs_of pairs.now).count)
+            × (pair_at (pairs_of pairs.now) index ≡ Ok pair)
+            × AreReadSoFar (pairs_of pairs.now) (index + 1) self.new.last_start) }
+    {
+        if index >= pairs.len() {
+            return None;
+        }
+        let mut steps = Steps::new(NoLedger);
+        let Ok((start, place)) = pairs.entry(index, &mut steps) else {
+            return None;
+        };
+        if !is_above(start, self.last_start) {
+            return None;
+        }
+        self.last_start = Some(start);
+        Some((start, place))
+    }
 }
 
 // Whether a start is above the last one, if there is one.
@@ -92,56 +171,22 @@ fn is_above(start: u64, last: Option<u64>) -> bool
     }
 }
 
-/// Whether a description of a frame table has its pair in the table of a header, where there is one
-/// whose pairs all read and ascend. Its index there is guessed.
-pub(crate) fn is_listed(table: &NamedTable<'_>, fde: &Fde<'_>, guess: u64) -> bool
-    ensures { (t : PairTable) (read : List (ℕ × ℕ)) →
-        option_map pairs_of table.now.pairs ≡ Some t → AreRead t read →
-        Decides result (Contains read (pair_of (table_of table.now.frames).base (fde_of fde.now))) }
-{
-    match &table.pairs {
-        None => true,
-        Some(pairs) => {
-            let place = table.frames.address().wrapping_add(fde.offset());
-            has_pair(pairs, fde.initial_address(), place, guess)
-        }
-    }
-}
-
-// Whether a pair has a start and a description's address. Its index is guessed.
-fn has_pair(pairs: &HdrTable<'_>, start: u64, place: u64, guess: u64) -> bool
-    ensures { (read : List (ℕ × ℕ)) → AreRead (pairs_of pairs.now) read →
-        Decides result (Contains read (start, place)) }
-{
-    if is_pair_at(pairs, guess, start, place) {
-        return true;
-    }
-    match place_of(pairs, start) {
-        Some(found) => found == place,
-        None => false,
-    }
-}
-
-// Whether the pair at an index reads, and has a start and a description's address.
-fn is_pair_at(pairs: &HdrTable<'_>, index: u64, start: u64, place: u64) -> bool
-    ensures { result ≡ true → (read : List (ℕ × ℕ)) → AreRead (pairs_of pairs.now) read →
-        Contains read (start, place) }
-{
-    if index >= pairs.len() {
-        return false;
-    }
-    let mut steps = Steps::new(NoLedger);
-    match pairs.entry(index, &mut steps) {
-        Ok((first, found)) => are_same(first, found, start, place),
-        Err(_) => false,
-    }
-}
-
 // Whether two starts are the same, and two addresses.
 fn are_same(first: u64, found: u64, start: u64, place: u64) -> bool
     ensures { result ≡ ((first == start) && (found == place)) }
 {
     first == start && found == place
+}
+
+// Whether a table has the pair of a start and a description's address.
+fn has_pair(pairs: &HdrTable<'_>, start: u64, place: u64) -> bool
+    ensures { (read : List (ℕ × ℕ)) → AreRead (pairs_of pairs.now) read →
+        Decides result (Contains read (start, place)) }
+{
+    match place_of(pairs, start) {
+        Some(found) => found == place,
+        None => false,
+    }
 }
 
 // The description's address in the pair with a start, by halving.

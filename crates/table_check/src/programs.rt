@@ -65,6 +65,26 @@ pub(crate) fn has_rows<'a>(
         (DescribesRows (bases_of bases.now) (function_of claim.now) (fde_of fde.now)) }
 {
     let mut running = RunningFrame::new(&claim.steps);
+    has_rows_from_start(claim, fde, bases, walk, &mut running)
+}
+
+// The same, with the frame of no steps. Not inlined, with a frame that is lent: so a rule is compared
+// with a slot where that lies, and no row needs all slots in registers.
+#[inline(never)]
+fn has_rows_from_start<'a>(
+    claim: &Claim,
+    fde: &Fde<'a>,
+    bases: &Bases,
+    walk: &mut RowWalk<'a>,
+    running: &mut RunningFrame,
+) -> bool
+    requires function { IsFunction SystemV (function_of claim.now) }
+    requires start { (fde_of fde.now).start ≡ claim.now.start }
+    requires end { (fde_of fde.now).start + (fde_of fde.now).size ≡ claim.now.end }
+    requires running { IsRunning running.old 0 claim.now.steps.items }
+    ensures { Decides result
+        (DescribesRows (bases_of bases.now) (function_of claim.now) (fde_of fde.now)) }
+{
     fde.begin_rows(bases, walk);
     let mut pc = claim.start;
     while pc < claim.end {
@@ -73,7 +93,7 @@ pub(crate) fn has_rows<'a>(
         if !fits_at(claim, walk, &running.frame, asked.place, pc) {
             return false;
         }
-        pc = next_change(claim, walk, &running, pc, asked.end);
+        pc = next_change(claim, walk, running, pc, asked.end);
         if walk.end() == Some(pc) {
             fde.go_on(bases, walk);
         }
@@ -176,9 +196,8 @@ fn fits_outermost(claim: &Claim, walk: &RowWalk<'_>, pc: u64) -> bool
     }
 }
 
-// The same in the body of another function. Not inlined, as it would take the registers of the loop
-// that looks at rows, most of which are those of prologues.
-#[inline(never)]
+// The same in the body of another function.
+#[inline(always)]
 fn fits_body(claim: &Claim, walk: &RowWalk<'_>, frame: &FrameSoFar, pc: u64) -> bool
     requires function { IsFunction SystemV (function_of claim.now) }
     requires frame { IsFrameAfter frame.now

@@ -34,8 +34,7 @@ impl RunningFrame {
 
     /// Runs the steps that have ended so far after the function's start. None has run that ends
     /// after it.
-    // Not inlined: the frame is written in its place, and not taken apart.
-    #[inline(never)]
+    #[inline(always)]
     pub(crate) fn run_to(&mut self, steps: &[ClaimedStep], offset: u64)
         requires { IsRunning self.old offset steps.now }
         ensures running { IsRunning self.new offset steps.now }

@@ -39,7 +39,7 @@ loop-found-init c =
         stand = tt;
         ends = tt;
         marks = unmarked c.args.image.now bases c.forget_descriptions.new.claims c.forget_descriptions.ensures.none;
-        listed = λ p read is all. (λ h. tt, λ u. new.listed);
+        listed = λ p is. new.listed p table.base;
       }),
     )
 
@@ -88,6 +88,6 @@ loop-found-preserved c =
       take.fewer,
       take.same ∙ inv.8,
       subst (λ (fs : List Function). Tells image t fs c.take.new.claims (fdes_of (before ++ e ∷ [])) c.take.new.self) inv.8
-          (take.tells before l.offset next.0 (sym inv.4) (read_before bases table 0 before l.offset inv.1) (at_here bases table l inv.2 before inv.1 e read)
+          (take.tells before l.offset next.0 (sym inv.4) (sym inv.6) (read_before bases table 0 before l.offset inv.1) (at_here bases table l inv.2 before inv.1 e read)
           (subst (λ (fs : List Function). Tells image t fs c.loop-found.claims (fdes_of before) c.loop-found.found) (sym inv.8) inv.9)),
     )

@@ -1,6 +1,5 @@
 use Rattle.std.proofs.Common.{suc, List, false, map, drop, get_or, subst, arith}
 use Rattle.std.proofs.Math.Numerals.{suc-eq-add-one}
-use Rattle.unwind_definitions.specs.Function.{Range}
 use Rattle.table_check.specs.declared.claims.AddressRange.{AddressRange}
 use Rattle.table_check.specs.ClaimViews.{range_of}
 use Rattle.table_check.proofs.Asking.{IsPassed, end_before, end_in, front_after, front_before, in_part, none_passed, one_passed, out_after, out_before, quiet_before, quiet_in, quiet_over}

@@ -1,8 +1,5 @@
-use Rattle.std.proofs.Common.{◌≡◌, ℕ, true, false, map, drop}
-use Rattle.std.specs.List.{list_any}
-use Rattle.unwind_definitions.specs.Function.{AreWithin, first_from, in_range}
+use Rattle.std.proofs.Common.{map, drop}
 use Rattle.table_check.specs.ClaimViews.{range_of}
-use Rattle.table_check.specs.Programs.{AreEdgesQuiet}
 use Rattle.table_check.proofs.programs.asked_among.Given as goal
 use Rattle.table_check.proofs.Asking.{IsPassed}
 

@@ -1,4 +1,4 @@
-use Rattle.std.proofs.Common.{◌≡◌, ℕ, ◌-◌, ◌<◌, Some, None, sym, subst, ◌∙◌, arith}
+use Rattle.std.proofs.Common.{◌≡◌, ◌-◌, ◌<◌, Some, sym, subst, ◌∙◌, arith}
 use Rattle.frame_rows.specs.Walks.{IsBefore}
 use Rattle.table_check.specs.Running.{next_end_of}
 use Rattle.table_check.proofs.programs.next_end.Goals as goal

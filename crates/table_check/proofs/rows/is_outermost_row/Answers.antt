@@ -1,6 +1,6 @@
 use Rattle.std.proofs.Common.{sym, ap, ◌∙◌}
 use Rattle.std.specs.Prelude.{is_some}
-use Rattle.table_check.proofs.Deciding.{decides_as, decides_no, decides_not}
+use Rattle.table_check.proofs.Deciding.{decides_no, decides_not}
 use Rattle.table_check.proofs.RowRules.{outermost_fits, outermost_value}
 use Rattle.table_check.proofs.rows.is_outermost_row.Goals as goal
 

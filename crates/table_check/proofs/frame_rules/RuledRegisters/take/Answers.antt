@@ -1,4 +1,4 @@
-use Rattle.std.proofs.Common.{Option, ℕ, subst}
+use Rattle.std.proofs.Common.{subst}
 use Rattle.std.specs.Bool.{Decides}
 use Rattle.unwind_definitions.specs.State.{RBX, RBP, R12, R13, R14, R15}
 use Rattle.frame_rows.specs.Rules.{rule_meaning}

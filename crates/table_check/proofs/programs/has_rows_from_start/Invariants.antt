@@ -7,7 +7,7 @@ use Rattle.frame_rows.specs.Walks.{IsBefore, IsWalking, end_of}
 use Rattle.table_check.specs.ClaimViews.{function_of}
 use Rattle.table_check.specs.Programs.{Fits}
 use Rattle.table_check.specs.Running.{IsRunning}
-use Rattle.table_check.proofs.programs.has_rows.Given as goal
+use Rattle.table_check.proofs.programs.has_rows_from_start.Given as goal
 
 -- the walk has the row at the address, and the rows before it fit
 abbrev pub invariant-loop-pc : goal.invariant-loop-pc
