@@ -15,8 +15,8 @@ use Rattle.sampled_profile.specs.Profiles.{Tables, tables, stacks_of, profile_te
 use Rattle.sampled_profile.proofs.ProfileLemmas.{due_done, profile_same}
 use Rattle.sampled_profile.specs.Scripts.{script_text}
 use Rattle.sampled_profile.proofs.ScriptLemmas.{script_done, script_same}
-use Rattle.profile.specs.declared.words.Form.{Form}
-use Rattle.profile.specs.declared.words.Form.TheVariants.{Folded, Script}
+use Rattle.profile.specs.declared.request.Form.{Form}
+use Rattle.profile.specs.declared.request.Form.TheVariants.{Folded, Script}
 use Rattle.profile.specs.Due.{Asks, due_of, lines_due, told_by}
 
 pub asked_due : (words : List (List ℕ)) (file bytes : List ℕ) (t : Tables) (records : List RecordValue) (lines : List StackCount) → Asks Folded words file bytes t records → IsFolded (stacks_of t records) lines

@@ -13,9 +13,9 @@ use Rattle.stack_snapshot.specs.Content.{Content, space_of}
 use Rattle.stack_snapshot.specs.Origins.{OriginValue, origins_by}
 use Rattle.sampled_profile.specs.Profiles.{Tables, tables, read_all, profile_of, profile_text}
 use Rattle.sampled_profile.specs.Scripts.{script_of}
-use Rattle.profile.specs.declared.words.Form.{Form}
-use Rattle.profile.specs.declared.words.Form.TheVariants.{Folded, Script}
-use Rattle.profile.specs.declared.words.Request.{Request}
+use Rattle.profile.specs.declared.request.Form.{Form}
+use Rattle.profile.specs.declared.request.Form.TheVariants.{Folded, Script}
+use Rattle.profile.specs.declared.request.Request.{Request}
 use Rattle.profile.specs.Lines.{refused_line, usage_line}
 
 -- ---- what the words ask for

@@ -5,12 +5,12 @@
 #![tactic(auto)]
 
 mod lines;
+mod request;
 mod running;
 mod sample;
-mod words;
 
+use crate::request::request_of;
 use crate::running::run;
-use crate::words::request_of;
 use command_ends::{Status, Words, end_program, words_of};
 use memory_image::{StdinSource, StdoutSink};
 use std::fs;

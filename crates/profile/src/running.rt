@@ -22,9 +22,9 @@ ghost use Rattle.profile.specs.Due.{request_in, tables_of, told_by};
 ghost use Rattle.profile.specs.Lines.{usage_line};
 
 use crate::lines::{refused_line, usage_line};
-use crate::words::{Form, request_of};
+use crate::request::{Form, request_of};
 use command_ends::{
-    Answer, Status, Words, fault_answer, read_input, silent_answer, tell, text_answer,
+    Answer, Status, Words, fault_answer, read_input, silent_answer, text_answer, write_answer,
 };
 use memory_image::{Sink, Source};
 use perf_data::PerfFile;
@@ -209,5 +209,5 @@ pub fn run<I: Source, O: Sink>(
         (O.holds output.old) (O.holds output.new) }
 {
     let answer = decide(alloc, words, tables, input);
-    tell(output, answer.status, answer.text.bytes())
+    write_answer(output, answer.status, answer.text.bytes())
 }

@@ -3,7 +3,7 @@ ghost use Rattle.std.specs.Prelude.{◌∷◌, [], codes};
 ghost use Rattle.perf_data.specs.Sample.{one_sample};
 ghost use Rattle.folded_stacks.specs.Counts.{IsFolded, counts_of};
 ghost use Rattle.sampled_profile.specs.Profiles.{stacks_of};
-ghost use Rattle.profile.specs.declared.words.Form.TheVariants.{Folded, Script};
+ghost use Rattle.profile.specs.declared.request.Form.TheVariants.{Folded, Script};
 ghost use Rattle.profile.specs.Due.{Asks};
 ghost use Rattle.profile.specs.Sample.{file, records, walked};
 

@@ -1,6 +1,9 @@
 pub mod EndLemmas
 pub mod CountLemmas
+pub mod KeyLemmas
+pub mod TableLemmas
 pub mod NameLemmas
 pub mod TextLemmas
+pub mod WalkLemmas
 pub mod ProfileLemmas
 pub mod ScriptLemmas

@@ -1,5 +1,6 @@
 -- The stacks of the records so far, and what is due of those that are left.
-use Rattle.std.proofs.Common.{◌≡◌, ◌+◌, ◌≤◌, ◌<◌, ◌^◌, ℕ, List, [], ◌∷◌, length, Result, Ok, Err, refl, sym, ap, subst, ◌∙◌, arith}
+use Rattle.std.proofs.Common.{◌≡◌, ◌+◌, ◌≤◌, ◌<◌, ◌^◌, ℕ, List, [], ◌∷◌, length, Option, Some, None, Result, Ok, Err, refl, sym, ap, subst, ◌∙◌, arith}
+use Rattle.std.specs.Prelude.{IsErrAnd}
 use Rattle.memory_image.specs.Results.{result_map}
 use Rattle.perf_data.specs.declared.errors.PerfError.{PerfError}
 use Rattle.perf_data.specs.Records.{RecordValue, Sampled, Mapped, Named, Forked, Exited, OtherKind}
@@ -8,14 +9,29 @@ use Rattle.folded_stacks.specs.Counts.{StackCount, counts_of, IsFolded}
 use Rattle.folded_stacks.proofs.FoldedLines.{counts_folded}
 use Rattle.folded_stacks.proofs.Counting.{counts_total, total}
 use Rattle.stack_snapshot.specs.Origins.{OriginValue}
+use Rattle.perf_data.specs.Samples.{SampleValue}
+use Rattle.perf_data.specs.Views.{record_value}
+use Rattle.perf_data.specs.declared.record.Record.{Record}
+use Rattle.sampled_profile.specs.declared.profile.ProfileError.{ProfileError}
+use Rattle.sampled_profile.specs.declared.profile.ProfileError.TheVariants.{NoMemory, Unread}
+use Rattle.sampled_profile.specs.Reading.{ReadsNext}
+use Rattle.sampled_profile.specs.Told.{Gives}
 use Rattle.sampled_profile.specs.declared.profile.Tally.{Tally}
-use Rattle.sampled_profile.specs.Kept.{IsTally}
+use Rattle.sampled_profile.specs.declared.stack_table.StackTable.{StackTable}
+use Rattle.sampled_profile.specs.Kept.{Counts, IsCounted, IsTally, Knows}
 use Rattle.sampled_profile.specs.Names.{name_of}
 use Rattle.sampled_profile.specs.Profiles.{Tables, tables, read_after, read_all, stacks_of, profile_of}
-use Rattle.sampled_profile.proofs.TextLemmas.{sample_same}
+use Rattle.sampled_profile.specs.Tables.{CountsOneMore, ShowsStacks, shown_name, shown_text, shown_walk, total_of}
+use Rattle.sampled_profile.specs.Texts.{stack_text}
+use Rattle.sampled_profile.specs.Walks.{walk_of}
+use Rattle.sampled_profile.proofs.TableLemmas.{shows_more}
+use Rattle.sampled_profile.proofs.WalkLemmas.{other, walk_same}
 
 abbrev made_ok : List StackCount → Result (List StackCount) PerfError
 made_ok x = Ok x
+
+abbrev made_failed : ProfileError → Result (List StackCount) ProfileError
+made_failed e = Err e
 
 ok_same : (x y : List StackCount) → made_ok x ≡ made_ok y → x ≡ y
 ok_same x y e = cc
@@ -32,11 +48,34 @@ stacks_few t (Exited k ∷ earlier) = let rest = stacks_few t earlier in omega a
 stacks_few t (OtherKind k ∷ earlier) = let rest = stacks_few t earlier in omega arith
 
 -- so there is room for one count more
-pub counts_few : (t : Tables) (tally : Tally) (earlier : List RecordValue) (left all : ℕ) → IsTally t tally earlier → length earlier + left ≤ all → 1 ≤ left → all < 2 ^ 64 → total tally.counts + 1 < 2 ^ 64
+pub counts_few : (t : Tables) (tally : Tally) (earlier : List RecordValue) (left all : ℕ) → IsTally t tally earlier → length earlier + left ≤ all → 1 ≤ left → all < 2 ^ 64 → total_of tally.stacks.counts.entries + 1 < 2 ^ 64
 counts_few t tally earlier left all is long some few =
-    let sum : total tally.counts ≡ length (stacks_of t earlier) = ap total is.counts ∙ counts_total (stacks_of t earlier) in
+    let sum = is.total in
     let fits = stacks_few t earlier in
     omega arith
+
+-- ---- one record more
+
+-- that of a sample
+pub sample_noted : (t : Tables) (earlier : List RecordValue) (s : SampleValue) (old new : Tally) → IsTally t old earlier → shown_name new.last ≡ name_of earlier s.thread → shown_walk new.last ≡ walk_of t.space t.limit s
+    → CountsOneMore new.last old.stacks.counts.entries new.stacks.counts.entries → new.names ≡ old.names → new.room.limit ≡ old.room.limit → IsTally t new (Sampled s ∷ earlier)
+sample_noted t earlier s old new is name walk counted names places =
+    let text : shown_text t.origins new.last ≡ stack_text t.origins (name_of earlier s.thread) (walk_of t.space t.limit s) = λ i. stack_text t.origins (name i) (walk i) in
+    record {
+      names = subst (λ n. Knows n earlier) (sym names) is.names;
+      shows = shows_more t.origins new.last old.stacks.counts.entries new.stacks.counts.entries (stacks_of t earlier) (stack_text t.origins (name_of earlier s.thread) (walk_of t.space t.limit s)) counted text is.shows;
+      total = let one = counted.total in let before = is.total in omega arith;
+      places = places ∙ is.places;
+    }
+
+-- ---- all of them
+
+pub table_counted : (s : SpaceValue) (limit : ℕ) (tally : Tally) (read : List RecordValue) (all : ℕ) → ((origins : List OriginValue) → IsTally (tables s origins limit) tally read) → length read ≤ all → all < 2 ^ 64
+    → IsCounted (λ origins. tables s origins limit) tally.stacks read
+table_counted s limit tally read all is long few = record {
+  shows = λ origins. (is origins).shows;
+  few = let sum = (is []).total in let fits = stacks_few (tables s [] limit) read in omega arith;
+}
 
 -- ---- what is due
 
@@ -48,13 +87,39 @@ pub due_failed : (t : Tables) (records : List (Result RecordValue PerfError)) (e
 unfolding profile_of
 due_failed t records e is = rw is refl
 
+-- of what was counted
+pub due_counted : (tables_by : List OriginValue → Tables) (origins : List OriginValue) (records : List (Result RecordValue PerfError)) (table : StackTable) (lines : List StackCount) → Counts (Ok table) tables_by records
+    → ((stacks : List (List ℕ)) → ShowsStacks origins table.counts.entries stacks → lines ≡ counts_of stacks) → profile_of (tables_by origins) records ≡ Ok lines
+due_counted tables_by origins records table lines counted told =
+    due_done (tables_by origins) records counted.0 counted.1 ∙ ap (λ ls. made_ok ls) (sym (told (stacks_of (tables_by origins) counted.0) (counted.2.shows origins)))
+
 -- at a record that can't be read
-pub read_failed : (all left rest : List (Result RecordValue PerfError)) (earlier : List RecordValue) (item : Result RecordValue PerfError) (e : PerfError) → left ≡ item ∷ rest → item ≡ Err e
-    → read_after earlier left ≡ read_all all → read_all all ≡ Err e
-read_failed all left rest earlier item e step is reads = sym reads ∙ rw (step, is) refl
+pub read_failed : (all left rest : List (Result RecordValue PerfError)) (earlier : List RecordValue) (e : PerfError) → left ≡ Err e ∷ rest → read_after earlier left ≡ read_all all → read_all all ≡ Err e
+read_failed all left rest earlier e step reads = sym reads ∙ rw step refl
+
+-- after one that is read
+pub read_on : (all left rest : List (Result RecordValue PerfError)) (earlier : List RecordValue) (r : RecordValue) → left ≡ Ok r ∷ rest → read_after earlier left ≡ read_all all → read_after (r ∷ earlier) rest ≡ read_all all
+read_on all left rest earlier r step reads = ap (read_after earlier) (sym step) ∙ reads
 
 pub some_left : (left rest : List (Result RecordValue PerfError)) (item : Result RecordValue PerfError) → left ≡ item ∷ rest → 1 ≤ length left
 some_left left rest item step = rw step (omega arith)
+
+-- the next record, by what is read of it
+pub next_step : (left rest : List (Result RecordValue PerfError)) (o : Option Record) (r : Record) → ReadsNext left (Ok o) rest → o ≡ Some r → left ≡ Ok (record_value r) ∷ rest
+next_step left rest o r reads is = subst (λ q. ReadsNext left (Ok q) rest) is reads
+
+pub next_end : (left rest : List (Result RecordValue PerfError)) (o : Option Record) → ReadsNext left (Ok o) rest → o ≡ None → left ≡ []
+next_end left rest o reads is = subst (λ q. ReadsNext left (Ok q) rest) is reads
+
+-- a profile that isn't read is answered so
+pub failed_profile : (result : Result (List StackCount) ProfileError) (tables_by : List OriginValue → Tables) (origins : List OriginValue) (records : List (Result RecordValue PerfError)) (e : ProfileError) → IsErrAnd result (λ f. f ≡ e)
+    → Counts (Err e) tables_by records → Gives result (profile_of (tables_by origins) records)
+failed_profile (Ok lines) tables_by origins records e is counts = absurd is
+failed_profile (Err f) tables_by origins records e is counts = subst (λ (g : ProfileError). Gives (made_failed g) (profile_of (tables_by origins) records)) (sym is) (go e counts)
+  where
+    go : (e : ProfileError) → Counts (Err e) tables_by records → Gives (made_failed e) (profile_of (tables_by origins) records)
+    go NoMemory counts = tt
+    go (Unread x) counts = due_failed (tables_by origins) records x counts
 
 -- and the other way round
 pub read_of : (t : Tables) (records : List (Result RecordValue PerfError)) (lines : List StackCount) → profile_of t records ≡ Ok lines → (read : List RecordValue) × (read_all records ≡ Ok read) × (lines ≡ counts_of (stacks_of t read))
@@ -69,7 +134,7 @@ read_of t records lines is = go (read_all records) refl is
 
 module _ (s : SpaceValue) (added : List Added) (origins : List OriginValue) (limit : ℕ) where
   abbrev prepared : Tables
-  prepared = tables (record s { added = added }) origins limit
+  prepared = tables (other s added) origins limit
 
   abbrev plain : Tables
   plain = tables s origins limit
@@ -77,9 +142,9 @@ module _ (s : SpaceValue) (added : List Added) (origins : List OriginValue) (lim
   stacks_same : (earlier : List RecordValue) → stacks_of prepared earlier ≡ stacks_of plain earlier
   stacks_same [] = refl
   stacks_same (Sampled k ∷ earlier) =
-      let here = sample_same s added origins limit (name_of earlier k.thread) k in
+      let here = walk_same s added limit k in
       let rest = stacks_same earlier in
-      λ i. here i ∷ rest i
+      λ i. stack_text origins (name_of earlier k.thread) (here i) ∷ rest i
   stacks_same (Mapped m ∷ earlier) = stacks_same earlier
   stacks_same (Named n ∷ earlier) = stacks_same earlier
   stacks_same (Forked k ∷ earlier) = stacks_same earlier

@@ -1,45 +1,51 @@
 -- The samples of a file one after another: their frames one by one, what is due, and that it doesn't depend on which modules are
 -- prepared.
-use Rattle.std.proofs.Common.{◌≡◌, ◌+◌, ◌==◌, ℕ, Bool, true, false, cond, List, [], ◌∷◌, ◌++◌, drop, slice_get, Option, Some, None, Result, Ok, Err, refl, sym, ap, ◌∙◌, append_assoc, arith}
-use Rattle.std.specs.Prelude.{codes}
+use Rattle.std.proofs.Common.{◌≡◌, ◌+◌, ◌==◌, ℕ, false, List, [], ◌∷◌, ◌++◌, drop, slice_get, Some, Result, Ok, Err, refl, sym, ap, subst, ◌∙◌, append_assoc, arith}
+use Rattle.std.specs.Prelude.{IsErrAnd}
 use Rattle.std.proofs.lemmas.Bool.{ne_eqb}
 use Rattle.std.proofs.lemmas.List.{drop_more}
-use Rattle.std.proofs.lemmas.Option.{slice_get_within, get_or_from_slice_get}
+use Rattle.std.specs.Option.{option_map}
+use Rattle.std.proofs.lemmas.Option.{slice_get_within, slice_get-map, get_or_from_slice_get}
 use Rattle.memory_image.specs.Results.{result_map}
 use Rattle.unwind_arch.specs.declared.x86_64.Context.{Context}
 use Rattle.perf_data.specs.declared.errors.PerfError.{PerfError}
 use Rattle.perf_data.specs.Records.{RecordValue, Sampled, Mapped, Named, Forked, Exited, OtherKind}
-use Rattle.perf_data.specs.Registers.{RegisterWords, context_of}
-use Rattle.perf_data.specs.Samples.{SampleValue}
 use Rattle.stack_steps.specs.Modules.{Added, SpaceValue}
-use Rattle.stack_walks.specs.Fronts.{front_of}
 use Rattle.stack_snapshot.specs.Origins.{OriginValue}
+use Rattle.sampled_profile.specs.Ends.{returns_of}
 use Rattle.sampled_profile.specs.Names.{name_of}
-use Rattle.sampled_profile.specs.Profiles.{Tables, tables, read_all}
-use Rattle.sampled_profile.specs.Scripts.{frame_line, frame_lines, end_lines, walk_lines, word_line, register_lines, head_line, sample_lines, with_lines, script_text, script_of}
-use Rattle.sampled_profile.specs.Walks.{end_of, sample_space}
-use Rattle.sampled_profile.proofs.TextLemmas.{other, front_same, end_same}
+use Rattle.sampled_profile.specs.Profiles.{Tables, tables, read_after, read_all}
+use Rattle.sampled_profile.specs.Scripts.{frame_line, frame_lines, sample_lines, script_text, script_of}
+use Rattle.sampled_profile.specs.declared.profile.ProfileError.{ProfileError}
+use Rattle.sampled_profile.specs.declared.profile.ProfileError.TheVariants.{NoMemory, Unread}
+use Rattle.sampled_profile.specs.Reading.{ReadsNext}
+use Rattle.sampled_profile.specs.Told.{Gives}
+use Rattle.sampled_profile.proofs.ProfileLemmas.{read_failed}
+use Rattle.sampled_profile.proofs.WalkLemmas.{other, walk_same}
 
 -- ---- frames
 
--- of states from a place on, where the first of all was interrupted
-abbrev pub lines_from : List OriginValue → ℕ → List Context → List ℕ
-lines_from origins i states = frame_lines origins (i == 0) (drop i states)
+-- of return addresses from a place on, at the first of all of which the thread was interrupted
+abbrev pub lines_from : List OriginValue → ℕ → List ℕ → List ℕ
+lines_from origins i returns = frame_lines origins (i == 0) (drop i returns)
 
-lines_more : (origins : List OriginValue) (states : List Context) (i : ℕ) (c : Context) → slice_get states i ≡ Some c →
-    lines_from origins i states ≡ frame_line origins (i == 0) c.ra ++ lines_from origins (i + 1) states
-lines_more origins states i c at =
+lines_more : (origins : List OriginValue) (returns : List ℕ) (i a : ℕ) → slice_get returns i ≡ Some a → lines_from origins i returns ≡ frame_line origins (i == 0) a ++ lines_from origins (i + 1) returns
+lines_more origins returns i a at =
     let later : (i + 1 == 0) ≡ false = ne_eqb (i + 1) 0 (λ e. omega arith) in
-    ap (frame_lines origins (i == 0)) (drop_more states i c (slice_get_within states i c at) ∙ ap (λ d. d ∷ drop (i + 1) states) (get_or_from_slice_get states i c c at))
-    ∙ ap (λ b. frame_line origins (i == 0) c.ra ++ frame_lines origins b (drop (i + 1) states)) (sym later)
+    ap (frame_lines origins (i == 0)) (drop_more returns i a (slice_get_within returns i a at) ∙ ap (λ d. d ∷ drop (i + 1) returns) (get_or_from_slice_get returns i a a at))
+    ∙ ap (λ b. frame_line origins (i == 0) a ++ frame_lines origins b (drop (i + 1) returns)) (sym later)
+
+-- the return address of a state
+returns_get : (states : List Context) (i : ℕ) (c : Context) → slice_get states i ≡ Some c → slice_get (returns_of states) i ≡ Some c.ra
+returns_get states i c at = slice_get-map (λ (d : Context). d.ra) states i ∙ ap (option_map (λ (d : Context). d.ra)) at
 
 -- one more on the way outwards
-pub put_more_lines : (origins : List OriginValue) (states : List Context) (i : ℕ) (c : Context) (all old new : List ℕ) → slice_get states i ≡ Some c → old ++ lines_from origins i states ≡ all
-    → new ≡ old ++ frame_line origins (i == 0) c.ra → new ++ lines_from origins (i + 1) states ≡ all
+pub put_more_lines : (origins : List OriginValue) (states : List Context) (i : ℕ) (c : Context) (all old new : List ℕ) → slice_get states i ≡ Some c → old ++ lines_from origins i (returns_of states) ≡ all
+    → new ≡ old ++ frame_line origins (i == 0) c.ra → new ++ lines_from origins (i + 1) (returns_of states) ≡ all
 put_more_lines origins states i c all old new at before put =
-    ap (λ s. s ++ lines_from origins (i + 1) states) put
-    ∙ (append_assoc old (frame_line origins (i == 0) c.ra) (lines_from origins (i + 1) states)
-    ∙ (ap (λ s. old ++ s) (sym (lines_more origins states i c at)) ∙ before))
+    ap (λ s. s ++ lines_from origins (i + 1) (returns_of states)) put
+    ∙ (append_assoc old (frame_line origins (i == 0) c.ra) (lines_from origins (i + 1) (returns_of states))
+    ∙ (ap (λ s. old ++ s) (sym (lines_more origins (returns_of states) i c.ra (returns_get states i c at))) ∙ before))
 
 -- ---- words in a frame's place
 
@@ -49,13 +55,6 @@ put_three old one two three first second third last e f g =
     let texts : three ≡ old ++ (first ++ (second ++ third)) =
     g ∙ (ap (λ s. s ++ third) (f ∙ ap (λ s. s ++ second) e) ∙ (append_assoc (old ++ first) second third ∙ append_assoc old first (second ++ third))) in
     ap (λ s. s ++ last) texts ∙ append_assoc old (first ++ (second ++ third)) last
-
--- ---- registers
-
--- of a program of 64 bits
-pub lines_by_registers : (space : SpaceValue) (origins : List OriginValue) (limit : ℕ) (stack : List ℕ) (o : Option RegisterWords) (r : RegisterWords) (c : Context) (abi : ℕ) → o ≡ Some r → abi ≡ r.abi → abi ≡ 2
-    → c ≡ context_of r → walk_lines (sample_space space c stack) origins limit c ≡ register_lines space origins limit stack o
-lines_by_registers space origins limit stack o r c abi some form two at = let is : r.abi ≡ 2 = sym form ∙ two in rw (some, at, is) refl
 
 -- ---- what is due
 
@@ -67,25 +66,22 @@ pub script_failed : (t : Tables) (records : List (Result RecordValue PerfError))
 unfolding script_of
 script_failed t records e is = rw is refl
 
+abbrev made_failed : ProfileError → Result (List ℕ) ProfileError
+made_failed e = Err e
+
+-- samples that aren't read are answered so
+pub failed_script : (result : Result (List ℕ) ProfileError) (t : Tables) (all left rest : List (Result RecordValue PerfError)) (earlier : List RecordValue) (e : ProfileError) → IsErrAnd result (λ f. f ≡ e) → ReadsNext left (Err e) rest
+    → read_after earlier left ≡ read_all all → Gives result (script_of t all)
+failed_script (Ok text) t all left rest earlier e is reads so_far = absurd is
+failed_script (Err f) t all left rest earlier e is reads so_far = subst (λ (g : ProfileError). Gives (made_failed g) (script_of t all)) (sym is) (go e reads)
+  where
+    go : (e : ProfileError) → ReadsNext left (Err e) rest → Gives (made_failed e) (script_of t all)
+    go NoMemory reads = absurd reads
+    go (Unread x) reads = script_failed t all x (read_failed all left reads.0 earlier x reads.1 so_far)
+
 -- ---- prepared modules
 
-module _ (s : SpaceValue) (added : List Added) where
-  walk_lines_same : (origins : List OriginValue) (limit : ℕ) (c : Context) → walk_lines (other s added) origins limit c ≡ walk_lines s origins limit c
-  walk_lines_same origins limit c = rw (front_same s added limit c, end_same s added limit c true) refl
-
 module _ (s : SpaceValue) (added : List Added) (origins : List OriginValue) (limit : ℕ) where
-  register_lines_same : (stack : List ℕ) (r : Option RegisterWords) → register_lines (other s added) origins limit stack r ≡ register_lines s origins limit stack r
-  register_lines_same stack None = refl
-  register_lines_same stack (Some r) = go (r.abi == 2)
-    where
-      go : (b : Bool) → cond b (walk_lines (sample_space (other s added) (context_of r) stack) origins limit (context_of r)) (word_line (codes "[32 bits]")) ≡ cond b (walk_lines (sample_space s (context_of r) stack) origins limit (context_of r)) (word_line (codes "[32 bits]"))
-      go true = walk_lines_same (sample_space s (context_of r) stack) added origins limit (context_of r)
-      go false = refl
-
-  sample_lines_same : (name : Option (List ℕ)) (sample : SampleValue) → sample_lines (other s added) origins limit name sample ≡ sample_lines s origins limit name sample
-  unfolding sample_lines
-  sample_lines_same name sample = ap (λ t. head_line name sample ++ t ++ 10 ∷ []) (register_lines_same sample.stack sample.registers)
-
   abbrev prepared : Tables
   prepared = tables (other s added) origins limit
 
@@ -95,7 +91,7 @@ module _ (s : SpaceValue) (added : List Added) (origins : List OriginValue) (lim
   text_same : (earlier : List RecordValue) → script_text prepared earlier ≡ script_text plain earlier
   text_same [] = refl
   text_same (Sampled k ∷ earlier) =
-      let here = sample_lines_same (name_of earlier k.thread) k in
+      let here = ap (sample_lines origins (name_of earlier k.thread) k) (walk_same s added limit k) in
       let rest = text_same earlier in
       λ i. rest i ++ here i
   text_same (Mapped m ∷ earlier) = text_same earlier

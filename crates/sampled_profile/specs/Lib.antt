@@ -1,6 +1,7 @@
--- What a profile tells, in an order to read it in: the name that a thread has, the walk of a sample and why it ends, the text of
--- a stack, the distinct ones of a file, and its samples one after another.
+-- What a profile tells, in an order to read it in: the name that a thread has, what is told of a stack, the walk of a sample and why
+-- it ends, the text of a stack, the distinct ones of a file, and its samples one after another.
 pub mod Names
+pub mod Ends
 pub mod Walks
 pub mod Texts
 pub mod Profiles
@@ -8,4 +9,6 @@ pub mod Scripts
 pub mod Told
 -- What the code holds.
 pub mod CountViews
+pub mod Tables
+pub mod Reading
 pub mod Kept

@@ -9,7 +9,8 @@ use Rattle.folded_stacks.specs.Counts.{StackCount, counts_of}
 use Rattle.stack_snapshot.specs.Origins.{OriginValue}
 use Rattle.stack_report.specs.Report.{line}
 use Rattle.sampled_profile.specs.Names.{name_of}
-use Rattle.sampled_profile.specs.Texts.{sample_text}
+use Rattle.sampled_profile.specs.Texts.{stack_text}
+use Rattle.sampled_profile.specs.Walks.{walk_of}
 
 -- the records of a file, the latest first, or the error at which reading stops
 abbrev pub read_after : List RecordValue → List (Result RecordValue PerfError) → Result (List RecordValue) PerfError
@@ -31,7 +32,7 @@ tables space origins limit = record { space = space; origins = origins; limit = 
 
 -- the stacks with that of a record, where it is a sample, whose thread is named by the records before it
 abbrev pub with_stack : Tables → RecordValue → List RecordValue → List (List ℕ) → List (List ℕ)
-with_stack t (Sampled s) earlier stacks = sample_text t.space t.origins t.limit (name_of earlier s.thread) s ∷ stacks
+with_stack t (Sampled s) earlier stacks = stack_text t.origins (name_of earlier s.thread) (walk_of t.space t.limit s) ∷ stacks
 with_stack t (Mapped m) earlier stacks = stacks
 with_stack t (Named n) earlier stacks = stacks
 with_stack t (Forked k) earlier stacks = stacks

@@ -5,21 +5,18 @@ use Rattle.std.specs.Prelude.{ℕ, zero, suc, ◌/◌, ◌%◌, ◌^◌, ◌==�
 use Rattle.std.specs.Fmt.{decimal, digit_glyph}
 use Rattle.memory_image.specs.Results.{result_map}
 use Rattle.unwind_definitions.specs.LanguageSearch.{address_of_call}
-use Rattle.unwind_arch.specs.declared.x86_64.Context.{Context}
 use Rattle.perf_data.specs.declared.errors.PerfError.{PerfError}
 use Rattle.perf_data.specs.declared.sample.Thread.{Thread}
 use Rattle.perf_data.specs.Records.{RecordValue, Sampled, Mapped, Named, Forked, Exited, OtherKind}
-use Rattle.perf_data.specs.Registers.{RegisterWords, context_of}
 use Rattle.perf_data.specs.Samples.{SampleValue}
-use Rattle.stack_steps.specs.Modules.{SpaceValue}
-use Rattle.stack_walks.specs.Fronts.{front_of}
 use Rattle.stack_snapshot.specs.Origins.{OriginValue, origin_at}
 use Rattle.stack_report.specs.Digits.{hexadecimal}
 use Rattle.stack_report.specs.Report.{line}
 use Rattle.sampled_profile.specs.Names.{name_of}
 use Rattle.sampled_profile.specs.Profiles.{Tables, read_all}
 use Rattle.sampled_profile.specs.Texts.{place_text, root_text, written_name}
-use Rattle.sampled_profile.specs.Walks.{StackEnd, Outermost, NoTable, Cut, Faulty, Long, end_of, sample_space}
+use Rattle.sampled_profile.specs.Ends.{StackWalk, end_word}
+use Rattle.sampled_profile.specs.Walks.{walk_of}
 
 -- ---- the first line
 
@@ -59,10 +56,10 @@ place_line origins a = line (codes "\t" ++ hexadecimal a ++ placed_text (origin_
 unfoldable pub frame_line : List OriginValue → Bool → ℕ → List ℕ
 frame_line origins interrupted a = if a == 0 then [] else place_line origins (address_of_call a interrupted)
 
--- of states from the innermost outwards, of which the first was interrupted or not
-abbrev pub frame_lines : List OriginValue → Bool → List Context → List ℕ
+-- of return addresses from the innermost outwards, at the first of which the thread was interrupted or not
+abbrev pub frame_lines : List OriginValue → Bool → List ℕ → List ℕ
 frame_lines origins interrupted [] = []
-frame_lines origins interrupted (c ∷ cs) = frame_line origins interrupted c.ra ++ frame_lines origins false cs
+frame_lines origins interrupted (a ∷ returns) = frame_line origins interrupted a ++ frame_lines origins false returns
 
 -- ---- why there are no more
 
@@ -70,32 +67,19 @@ frame_lines origins interrupted (c ∷ cs) = frame_line origins interrupted c.ra
 abbrev pub word_line : List ℕ → List ℕ
 word_line word = line (codes "\t0x0 " ++ word ++ codes " ([unknown])")
 
-abbrev pub end_lines : StackEnd → List ℕ
-end_lines Outermost = []
-end_lines NoTable = word_line (codes "[no table]")
-end_lines Cut = word_line (codes "[cut]")
-end_lines Faulty = word_line (codes "[refused]")
-end_lines Long = word_line (codes "[limit]")
+abbrev pub end_line : Option (List ℕ) → List ℕ
+end_line None = []
+end_line (Some word) = word_line word
 
 -- ---- all of it
 
--- of a walk over a space from a context that was interrupted
-abbrev pub walk_lines : SpaceValue → List OriginValue → ℕ → Context → List ℕ
-walk_lines space origins limit c = frame_lines origins true (front_of space limit c true) ++ end_lines (end_of space limit c true)
-
--- by the form of the program, of which 2 is that of 64 bits
-abbrev pub register_lines : SpaceValue → List OriginValue → ℕ → List ℕ → Option RegisterWords → List ℕ
-register_lines space origins limit stack None = word_line (codes "[no registers]")
-register_lines space origins limit stack (Some r) =
-    if r.abi == 2 then walk_lines (sample_space space (context_of r) stack) origins limit (context_of r) else word_line (codes "[32 bits]")
-
--- a sample of a thread of this name
-unfoldable pub sample_lines : SpaceValue → List OriginValue → ℕ → Option (List ℕ) → SampleValue → List ℕ
-sample_lines space origins limit name s = head_line name s ++ register_lines space origins limit s.stack s.registers ++ 10 ∷ []
+-- a sample of a thread of this name, by its walk
+unfoldable pub sample_lines : List OriginValue → Option (List ℕ) → SampleValue → StackWalk → List ℕ
+sample_lines origins name s w = head_line name s ++ (frame_lines origins true w.returns ++ end_line (end_word w.end)) ++ 10 ∷ []
 
 -- the lines so far with those of a record, where it is a sample, whose thread is named by the records before it
 abbrev pub with_lines : Tables → RecordValue → List RecordValue → List ℕ → List ℕ
-with_lines t (Sampled s) earlier before = before ++ sample_lines t.space t.origins t.limit (name_of earlier s.thread) s
+with_lines t (Sampled s) earlier before = before ++ sample_lines t.origins (name_of earlier s.thread) s (walk_of t.space t.limit s)
 with_lines t (Mapped m) earlier before = before
 with_lines t (Named n) earlier before = before
 with_lines t (Forked k) earlier before = before

@@ -1,17 +1,23 @@
 -- The walk of a sample: over the tables and the copy of its stack, from the registers of its thread.
-use Rattle.std.specs.Prelude.{ℕ, zero, suc, ◌==◌, Bool, List, Option, Some, None, Result, Ok, Err, slice_index, if◌then◌else◌}
+use Rattle.std.specs.Prelude.{ℕ, zero, suc, ◌==◌, Bool, true, List, [], Option, Some, None, Result, Ok, Err, slice_index, if◌then◌else◌}
 use Rattle.memory_image.specs.declared.errors.ImageError.{ImageError}
 use Rattle.memory_image.specs.Image.{Span, refusal, with_span}
 use Rattle.unwind_definitions.specs.Columns as column
 use Rattle.unwind_arch.specs.declared.x86_64.Context.{Context}
 use Rattle.format_frames.specs.declared.machine.Stepped.{Stepped}
-use Rattle.stack_steps.specs.declared.answers.DeliverError.{DeliverError}
-use Rattle.stack_steps.specs.declared.answers.DeliverError.TheVariants.{Unmapped}
+use Rattle.perf_data.specs.Registers.{RegisterWords, context_of}
+use Rattle.perf_data.specs.Samples.{SampleValue}
+use Rattle.stack_steps.specs.declared.error.DeliverError.{DeliverError}
+use Rattle.stack_steps.specs.declared.error.DeliverError.TheVariants.{Unmapped}
 use Rattle.stack_steps.specs.Growing.{over_image}
 use Rattle.stack_steps.specs.Modules.{SpaceValue}
 use Rattle.stack_steps.specs.Stepping.{step_of}
-use Rattle.stack_walks.specs.declared.front.Front.{Front}
-use Rattle.stack_walks.specs.declared.front.Front.TheVariants as fronts
+use Rattle.stack_walks.specs.declared.walk_end.EndReason.{EndReason}
+use Rattle.stack_walks.specs.declared.walk_end.EndReason.TheVariants as reason
+use Rattle.stack_walks.specs.WalkEnds.{contexts_to_end}
+use Rattle.sampled_profile.specs.declared.stack_end.StackEnd.{StackEnd}
+use Rattle.sampled_profile.specs.declared.stack_end.StackEnd.TheVariants.{Outermost, NoTable, Cut, Refused, Limit, NoRegisters, Narrow}
+use Rattle.sampled_profile.specs.Ends.{StackWalk, returns_of}
 
 -- ---- where it walks
 
@@ -29,18 +35,9 @@ sample_space space c stack = over_image space (image_with space.image (slice_ind
 
 -- ---- why it ends
 
--- Why a stack is told no further: its last frame returns to 0, nothing is known there, a word that is read isn't mapped, as after
--- the end of the copy, another fault of the step, or the most frames are told.
-pub data StackEnd : Type 0 where
-  Outermost : StackEnd
-  NoTable : StackEnd
-  Cut : StackEnd
-  Faulty : StackEnd
-  Long : StackEnd
-
 abbrev pub end_for : DeliverError → StackEnd
 end_for (Unmapped a) = Cut
-end_for e = Faulty
+end_for e = Refused
 
 abbrev pub end_at : Context → StackEnd
 end_at c = if c.ra == 0 then Outermost else NoTable
@@ -52,12 +49,31 @@ end_after c (Ok (Some s)) outer = outer s.context s.signal
 
 -- from a context outwards, of which so many are told
 abbrev pub end_of : SpaceValue → ℕ → Context → Bool → StackEnd
-end_of space zero c interrupted = Long
+end_of space zero c interrupted = Limit
 end_of space (suc room) c interrupted = end_after c (step_of space c interrupted) (end_of space room)
 
 -- the end that the reason of a walk tells
-abbrev pub end_told : Front → StackEnd
-end_told fronts.Outermost = Outermost
-end_told (fronts.Refused a e) = end_for e
-end_told fronts.Limit = Long
+abbrev pub end_told : EndReason → StackEnd
+end_told reason.Outermost = Outermost
+end_told (reason.Refused a e) = end_for e
+end_told reason.Limit = Limit
 end_told _ = NoTable
+
+-- ---- what is told of it
+
+-- over a space from a context that was interrupted
+abbrev pub walk_from : SpaceValue → ℕ → Context → StackWalk
+walk_from space limit c = record { returns = returns_of (contexts_to_end space limit c true); end = end_of space limit c true }
+
+-- where a thread was interrupted, by its registers, of which the form 2 is that of a program of 64 bits; or why that isn't known
+abbrev pub start_of : Option RegisterWords → Result Context StackEnd
+start_of None = Err NoRegisters
+start_of (Some r) = if r.abi == 2 then Ok (context_of r) else Err Narrow
+
+abbrev pub walk_by : SpaceValue → ℕ → List ℕ → Result Context StackEnd → StackWalk
+walk_by space limit stack (Ok c) = walk_from (sample_space space c stack) limit c
+walk_by space limit stack (Err end) = record { returns = []; end = end }
+
+-- of a sample
+abbrev pub walk_of : SpaceValue → ℕ → SampleValue → StackWalk
+walk_of space limit s = walk_by space limit s.stack (start_of s.registers)

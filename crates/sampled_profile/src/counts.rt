@@ -1,6 +1,7 @@
 // Distinct stacks with their counts.
 ghost use Rattle.std.specs.Prelude.{◌≡◌, ◌+◌, ◌<◌, ◌^◌, ◌++◌, [], OnOk, sum_by};
-ghost use Rattle.folded_stacks.specs.Counts.{counted_in, stack_count};
+ghost use Rattle.folded_stacks.specs.Counts.{stack_count};
+ghost use Rattle.sampled_profile.specs.CountViews.{counted_times};
 ghost use Rattle.sampled_profile.specs.Profiles.{count_line, profile_text};
 
 use stack_report::Report;
@@ -36,22 +37,28 @@ impl StackCounts {
         }
     }
 
-    /// Counts a sample more that shows a stack. No memory is taken where it was shown before.
+    /// Counts so many samples more that show a stack.
     ///
     /// # Errors
     ///
-    /// `AllocError` where memory ran out; the stacks are then as before.
-    pub(crate) fn count(&mut self, stack: &[u8]) -> Result<(), AllocError>
-        requires { sum_by (λ line. line.count) self.old + 1 < 2 ^ 64 }
-        ensures { OnOk result (self.new ≡ counted_in stack.now self.old) }
+    /// `AllocError` where memory ran out.
+    pub(crate) fn add(&mut self, stack: &[u8], more: u64) -> Result<(), AllocError>
+        requires { sum_by (λ line. line.count) self.old + more < 2 ^ 64 }
+        ensures { OnOk result (self.new ≡ counted_times more stack.now self.old) }
     {
-        if let Some(count) = self.counts.get_mut(stack) {
-            *count += 1;
+        if more == 0 {
             return Ok(());
         }
         let key = Vec::from_slice(self.alloc, stack)?;
-        self.counts.insert(key, 1)?;
-        Ok(())
+        match self.counts.insert(key, more)? {
+            // Other frames have the same text, where two files have one name.
+            Some(before) => {
+                let key = Vec::from_slice(self.alloc, stack)?;
+                self.counts.insert(key, before + more)?;
+                Ok(())
+            }
+            None => Ok(()),
+        }
     }
 
     /// Puts a line for each stack last: its text and its count.

@@ -4,8 +4,8 @@ ghost use Rattle.unwind_arch.specs.declared.x86_64.Context.{Context};
 ghost use Rattle.perf_data.specs.declared.errors.PerfError.{PerfError};
 ghost use Rattle.perf_data.specs.Records.{RecordValue};
 ghost use Rattle.stack_steps.specs.Modules.{Added, SpaceValue};
-ghost use Rattle.stack_walks.specs.declared.front.Front.{Front};
-ghost use Rattle.stack_walks.specs.Fronts.{ComesTo};
+ghost use Rattle.stack_walks.specs.declared.walk_end.EndReason.{EndReason};
+ghost use Rattle.stack_walks.specs.WalkEnds.{ComesTo};
 ghost use Rattle.stack_snapshot.specs.Origins.{OriginValue};
 ghost use Rattle.sampled_profile.specs.Profiles.{profile_of, tables};
 ghost use Rattle.sampled_profile.specs.Scripts.{script_of};
@@ -29,7 +29,7 @@ pub fn scripts_stay_as_modules_are_prepared()
 
 /// The end of a stack is the one that the reason of its walk tells.
 pub fn a_reason_tells_the_end()
-    ensures { (space : SpaceValue) (why : Front) (limit : ℕ) (c : Context) (interrupted : Bool) →
+    ensures { (space : SpaceValue) (why : EndReason) (limit : ℕ) (c : Context) (interrupted : Bool) →
         ComesTo why space limit c interrupted →
         end_of space limit c interrupted ≡ end_told why }
 {}

@@ -3,16 +3,22 @@
 //! samples that show it. Or the samples are told one after another, in the text form of `perf script`.
 //!
 //! Nothing of the tables is copied for a sample, and no memory is taken for one whose stack was seen
-//! before. A stack that goes on where nothing is known, as after the end of the copy, is told as far
-//! as it is known, and why there is no more.
+//! before. A frame's text is written once, however many stacks have it. A stack that goes on where
+//! nothing is known, as after the end of the copy, is written as far as it is known, and why there is
+//! no more.
 #![tactic(auto)]
 
 mod counts;
+mod frame_texts;
 mod laws;
 mod lines;
 mod names;
 mod profile;
+mod records;
 mod script;
+mod stack_end;
+mod stack_table;
+mod text_counts;
 mod texts;
 mod walks;
 
@@ -22,3 +28,4 @@ pub use laws::{
 };
 pub use profile::{Profile, ProfileError, profile_of};
 pub use script::script_of;
+pub use stack_end::StackEnd;

@@ -1,17 +1,18 @@
 // The lines of a sample.
 ghost use Rattle.std.specs.Prelude.{◌≡◌, ◌≤◌, ◌==◌, ◌++◌, ◌∷◌, OnOk, [], true, take};
 ghost use Rattle.std.specs.Option.{option_map};
-ghost use Rattle.perf_data.specs.Views.{sample_value, words_of};
-ghost use Rattle.sampled_profile.specs.Scripts.{decimals, end_lines, frame_line, frame_lines};
-ghost use Rattle.sampled_profile.specs.Scripts.{head_line, place_line, placed_text};
-ghost use Rattle.sampled_profile.specs.Scripts.{register_lines, sample_lines, seconds_text};
-ghost use Rattle.sampled_profile.specs.Scripts.{thread_text, time_text, walk_lines, word_line};
-ghost use Rattle.sampled_profile.specs.Walks.{end_told, sample_space};
+ghost use Rattle.perf_data.specs.Views.{sample_value};
+ghost use Rattle.sampled_profile.specs.Ends.{end_word, returns_of};
+ghost use Rattle.sampled_profile.specs.Scripts.{decimals, end_line, frame_line, frame_lines};
+ghost use Rattle.sampled_profile.specs.Scripts.{head_line, place_line, placed_text, sample_lines};
+ghost use Rattle.sampled_profile.specs.Scripts.{seconds_text, thread_text, time_text, word_line};
+ghost use Rattle.sampled_profile.specs.Walks.{walk_of};
 
-use crate::texts::{ABI_64, address_inside, put_name, put_place, put_root};
+use crate::stack_end::StackEnd;
+use crate::texts::{address_inside, put_name, put_place, put_root};
 use crate::walks::walk_sample;
-use perf_data::{Sample, Thread, UserRegisters};
-use stack_deliver::{Context, DeliverError, Front, Room, Space};
+use perf_data::{Sample, Thread};
+use stack_deliver::{Room, Space};
 use stack_report::Report;
 use stack_snapshot::{Origin, Origins};
 use std::alloc::AllocError;
@@ -118,7 +119,7 @@ fn put_frame_line(
 /// Puts the lines of the states in a room last, the innermost first.
 fn put_frame_lines(report: &mut Report, origins: &Origins, room: &Room) -> Result<(), AllocError>
     ensures { OnOk result (report.new ≡ report.old ++
-        frame_lines origins.now true room.now.visited) }
+        frame_lines origins.now true (returns_of room.now.visited)) }
 {
     for i in 0..room.visited_len() {
         let state = room.visited(i).unwrap();
@@ -138,66 +139,12 @@ fn put_word_line(report: &mut Report, word: &str) -> Result<(), AllocError>
 }
 
 /// Puts last why a stack is told no further.
-fn put_end_lines(report: &mut Report, why: Front) -> Result<(), AllocError>
-    ensures { OnOk result (report.new ≡ report.old ++ end_lines (end_told why)) }
+fn put_end_line(report: &mut Report, end: StackEnd) -> Result<(), AllocError>
+    ensures { OnOk result (report.new ≡ report.old ++ end_line (end_word end)) }
 {
-    match why {
-        Front::Outermost => Ok(()),
-        Front::NoModule(_) | Front::NoDescription(_) | Front::UnreadableTable { .. } => {
-            put_word_line(report, "[no table]")
-        }
-        Front::Refused {
-            error: DeliverError::Unmapped(_),
-            ..
-        } => put_word_line(report, "[cut]"),
-        Front::Refused { .. } => put_word_line(report, "[refused]"),
-        Front::Limit => put_word_line(report, "[limit]"),
-    }
-}
-
-/// Puts the lines of a thread's stack last, from where it was interrupted.
-fn put_walk_lines(
-    report: &mut Report,
-    space: &Space<'_>,
-    origins: &Origins,
-    limit: u32,
-    start: &Context,
-    stack: &[u8],
-    room: &mut Room,
-) -> Result<(), AllocError>
-    requires { limit ≤ room.old.limit }
-    ensures text { OnOk result (report.new ≡ report.old ++
-        walk_lines (sample_space space.now start.now stack.now) origins.now limit start.now) }
-    ensures places { room.new.limit ≡ room.old.limit }
-{
-    let why = walk_sample(space, start, stack, limit, room);
-    put_frame_lines(report, origins, room)?;
-    put_end_lines(report, why)
-}
-
-/// Puts the lines of a thread's stack last, by its registers, where it has some.
-fn put_register_lines(
-    report: &mut Report,
-    space: &Space<'_>,
-    origins: &Origins,
-    limit: u32,
-    registers: Option<UserRegisters<'_>>,
-    stack: &[u8],
-    room: &mut Room,
-) -> Result<(), AllocError>
-    requires { limit ≤ room.old.limit }
-    ensures text { OnOk result (report.new ≡ report.old ++
-        register_lines space.now origins.now limit stack.now (words_of registers.entry)) }
-    ensures places { room.new.limit ≡ room.old.limit }
-{
-    let Some(registers) = registers else {
-        return put_word_line(report, "[no registers]");
-    };
-    if registers.abi() == ABI_64 {
-        let start = registers.context();
-        put_walk_lines(report, space, origins, limit, &start, stack, room)
-    } else {
-        put_word_line(report, "[32 bits]")
+    match end.word() {
+        Some(word) => put_word_line(report, word),
+        None => Ok(()),
     }
 }
 
@@ -217,12 +164,14 @@ pub(crate) fn put_sample_lines(
     room: &mut Room,
 ) -> Result<(), AllocError>
     requires { limit ≤ room.old.limit }
-    ensures text { OnOk result (report.new ≡ report.old ++ sample_lines space.now origins.now limit
-        (option_map (λ n. n.now) name.entry) (sample_value sample.now)) }
+    ensures text { OnOk result (report.new ≡ report.old ++ sample_lines origins.now
+        (option_map (λ n. n.now) name.entry) (sample_value sample.now)
+        (walk_of space.now limit (sample_value sample.now))) }
     ensures places { room.new.limit ≡ room.old.limit }
 {
     put_head(report, name, sample)?;
-    let registers = sample.registers;
-    put_register_lines(report, space, origins, limit, registers, sample.stack, room)?;
+    let end = walk_sample(space, limit, sample, room);
+    put_frame_lines(report, origins, room)?;
+    put_end_line(report, end)?;
     report.end_line()
 }

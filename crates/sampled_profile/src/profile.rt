@@ -1,22 +1,25 @@
 // The profile of a perf.data file.
 ghost use Rattle.std.specs.Prelude.{◌≡◌, ◌+◌, ◌<◌, ◌≤◌, ◌^◌, ◌++◌, ◌∷◌, [], List, Ok, IfOk, OnOk, length};
 ghost use Rattle.std.specs.Prelude.{sum_by};
-ghost use Rattle.std.specs.Option.{option_map};
 ghost use Rattle.perf_data.specs.Records.{RecordValue};
 ghost use Rattle.stack_steps.specs.Modules.{SpaceValue};
 ghost use Rattle.stack_snapshot.specs.Origins.{OriginValue};
 ghost use Rattle.perf_data.specs.Views.{record_value, records_left, sample_value};
-ghost use Rattle.folded_stacks.specs.Counts.{IsFolded, counted_in};
-ghost use Rattle.sampled_profile.specs.Kept.{IsTally, Knows};
+ghost use Rattle.folded_stacks.specs.Counts.{IsFolded};
+ghost use Rattle.sampled_profile.specs.Kept.{Counts, IsTally, Knows};
 ghost use Rattle.sampled_profile.specs.Names.{name_of};
 ghost use Rattle.sampled_profile.specs.Profiles.{profile_of, profile_text, read_all, stacks_of};
 ghost use Rattle.sampled_profile.specs.Profiles.{tables};
-ghost use Rattle.sampled_profile.specs.Texts.{sample_text};
+ghost use Rattle.sampled_profile.specs.Tables.{CountsOneMore, shown_name, shown_walk, total_of};
 ghost use Rattle.sampled_profile.specs.Told.{Gives};
+ghost use Rattle.sampled_profile.specs.Walks.{walk_of};
 
 use crate::counts::StackCounts;
 use crate::names::{ThreadNames, name_of};
-use crate::texts::put_sample;
+use crate::records::next_record;
+use crate::stack_table::{SampledStack, StackTable};
+use crate::text_counts::counts_by_text;
+use crate::walks::walk_sample;
 use perf_data::{PerfError, PerfFile, Record, Records, Sample};
 use stack_deliver::{Room, Space};
 use stack_report::Report;
@@ -77,13 +80,13 @@ impl Profile {
     }
 }
 
-/// What is known after the records so far, and the room and the text of a walk.
+/// What is known after the records so far, and the room and the stack of a walk.
 #[derive(Drop)]
 pub(crate) struct Tally<'a> {
     names: ThreadNames<'a>,
-    counts: StackCounts,
+    stacks: StackTable<'a>,
     room: Room,
-    text: Report,
+    last: SampledStack<'a>,
 }
 
 /// Nothing is known yet.
@@ -93,53 +96,51 @@ fn empty_tally<'a>(alloc: Global, limit: u32) -> Result<Tally<'a>, AllocError>
 {
     Ok(Tally {
         names: ThreadNames::new(alloc),
-        counts: StackCounts::new(alloc),
+        stacks: StackTable::new(alloc),
         room: Room::new(alloc, limit)?,
-        text: Report::new(alloc),
+        last: SampledStack::new(alloc),
     })
 }
 
 /// Counts the stack of a sample.
 fn count_sample(
     space: &Space<'_>,
-    origins: &Origins,
     limit: u32,
     sample: &Sample<'_>,
     tally: &mut Tally<'_>,
 ) -> Result<(), AllocError>
     requires places { limit ≤ tally.old.room.limit }
-    requires few { sum_by (λ line. line.count) tally.old.counts + 1 < 2 ^ 64 }
-    ensures counted { OnOk result ((earlier : List RecordValue) → Knows tally.old.names earlier →
-        tally.new.counts ≡ counted_in (sample_text space.now origins.now limit
-        (name_of earlier (sample_value sample.now).thread) (sample_value sample.now))
-        tally.old.counts) }
+    requires few { total_of tally.old.stacks.counts.entries + 1 < 2 ^ 64 }
+    ensures name { OnOk result ((earlier : List RecordValue) → Knows tally.old.names earlier →
+        shown_name tally.new.last ≡ name_of earlier (sample_value sample.now).thread) }
+    ensures walk { OnOk result
+        (shown_walk tally.new.last ≡ walk_of space.now limit (sample_value sample.now)) }
+    ensures counted { OnOk result (CountsOneMore tally.new.last tally.old.stacks.counts.entries
+        tally.new.stacks.counts.entries) }
     ensures names { tally.new.names ≡ tally.old.names }
     ensures places { tally.new.room.limit ≡ tally.old.room.limit }
 {
     let name = name_of(&tally.names, sample);
-    tally.text.clear();
-    let room = &mut tally.room;
-    put_sample(&mut tally.text, space, origins, limit, name, sample, room)?;
-    tally.counts.count(tally.text.bytes())
+    let end = walk_sample(space, limit, sample, &mut tally.room);
+    tally.last.set(name, end, &tally.room)?;
+    tally.stacks.count(&tally.last)
 }
 
 /// Takes what a record says.
 fn note_record<'a>(
     space: &Space<'_>,
-    origins: &Origins,
     limit: u32,
     entry: &Record<'a>,
     tally: &mut Tally<'a>,
 ) -> Result<(), AllocError>
     requires places { tally.old.room.limit ≡ limit }
-    requires few { sum_by (λ line. line.count) tally.old.counts + 1 < 2 ^ 64 }
-    ensures { OnOk result ((earlier : List RecordValue) →
-        IsTally (tables space.now origins.now limit) tally.old earlier →
-        IsTally (tables space.now origins.now limit) tally.new
-        (record_value entry.now ∷ earlier)) }
+    requires few { total_of tally.old.stacks.counts.entries + 1 < 2 ^ 64 }
+    ensures { OnOk result ((origins : List OriginValue) (earlier : List RecordValue) →
+        IsTally (tables space.now origins limit) tally.old earlier →
+        IsTally (tables space.now origins limit) tally.new (record_value entry.now ∷ earlier)) }
 {
     match entry {
-        Record::Sample(sample) => count_sample(space, origins, limit, sample, tally),
+        Record::Sample(sample) => count_sample(space, limit, sample, tally),
         _ => tally.names.note(entry),
     }
 }
@@ -148,23 +149,19 @@ fn note_record<'a>(
 fn tally_records<'a>(
     alloc: Global,
     space: &Space<'_>,
-    origins: &Origins,
     limit: u32,
     records: Records<'a>,
-) -> Result<StackCounts, ProfileError>
+) -> Result<StackTable<'a>, ProfileError>
     requires { length (records_left records) < 2 ^ 64 }
-    ensures { Gives result
-        (profile_of (tables space.now origins.now limit) (records_left records.entry)) }
+    ensures { Counts result (λ origins. tables space.now origins limit)
+        (records_left records.entry) }
 {
     let mut tally = empty_tally(alloc, limit)?;
     let mut records = records;
-    while let Some(item) = records.next() {
-        match item {
-            Ok(record) => note_record(space, origins, limit, &record, &mut tally)?,
-            Err(error) => return Err(ProfileError::Unread(error)),
-        }
+    while let Some(entry) = next_record(&mut records)? {
+        note_record(space, limit, &entry, &mut tally)?;
     }
-    Ok(tally.counts)
+    Ok(tally.stacks)
 }
 
 /// The profile of a perf.data file: each distinct stack of its samples once, in the order of the
@@ -174,7 +171,7 @@ fn tally_records<'a>(
 /// and the copy of its stack, at most `limit` states. Its text has the name of its thread, which the
 /// records before it tell, then why it is told no further, and its frames, the outermost first, by
 /// the files of `origins`. The space answers the same whether it is prepared or not, and much sooner
-/// where it is. Nothing is allocated for a sample whose text was told before.
+/// where it is. Nothing is allocated for a sample whose stack was walked before.
 ///
 /// # Errors
 ///
@@ -199,6 +196,7 @@ pub fn profile_of(
         read_all file.now.records ≡ Ok read → sum_by (λ line. line.count) profile ≡
         length (stacks_of (tables space.now origins.now limit) read)) }
 {
-    let counts = tally_records(alloc, space, origins, limit, file.records())?;
+    let stacks = tally_records(alloc, space, limit, file.records())?;
+    let counts = counts_by_text(alloc, origins, &stacks)?;
     Ok(Profile { counts })
 }

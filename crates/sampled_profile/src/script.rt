@@ -10,10 +10,12 @@ ghost use Rattle.sampled_profile.specs.Names.{name_of};
 ghost use Rattle.sampled_profile.specs.Profiles.{tables};
 ghost use Rattle.sampled_profile.specs.Scripts.{sample_lines, script_of};
 ghost use Rattle.sampled_profile.specs.Told.{Gives};
+ghost use Rattle.sampled_profile.specs.Walks.{walk_of};
 
 use crate::lines::put_sample_lines;
 use crate::names::{ThreadNames, name_of};
 use crate::profile::ProfileError;
+use crate::records::next_record;
 use perf_data::{PerfFile, Record, Records, Sample};
 use stack_deliver::{Room, Space};
 use stack_report::Report;
@@ -50,8 +52,9 @@ fn put_sample(
 ) -> Result<(), AllocError>
     requires { limit ≤ script.old.room.limit }
     ensures text { OnOk result ((earlier : List RecordValue) → Knows script.old.names earlier →
-        script.new.text ≡ script.old.text ++ sample_lines space.now origins.now limit
-        (name_of earlier (sample_value sample.now).thread) (sample_value sample.now)) }
+        script.new.text ≡ script.old.text ++ sample_lines origins.now
+        (name_of earlier (sample_value sample.now).thread) (sample_value sample.now)
+        (walk_of space.now limit (sample_value sample.now))) }
     ensures names { script.new.names ≡ script.old.names }
     ensures places { script.new.room.limit ≡ script.old.room.limit }
 {
@@ -93,11 +96,8 @@ fn script_records<'a>(
 {
     let mut script = empty_script(alloc, limit)?;
     let mut records = records;
-    while let Some(item) = records.next() {
-        match item {
-            Ok(record) => note_record(space, origins, limit, &record, &mut script)?,
-            Err(error) => return Err(ProfileError::Unread(error)),
-        }
+    while let Some(entry) = next_record(&mut records)? {
+        note_record(space, origins, limit, &entry, &mut script)?;
     }
     Ok(script.text)
 }

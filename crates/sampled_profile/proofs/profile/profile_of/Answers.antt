@@ -1,10 +1,34 @@
+use Rattle.std.proofs.Common.{List, ap, sym, subst, ◌∙◌}
 use Rattle.perf_data.specs.Views.{records_left}
-use Rattle.sampled_profile.specs.Profiles.{tables}
-use Rattle.sampled_profile.proofs.ProfileLemmas.{profile_folded, profile_adds_up}
+use Rattle.stack_snapshot.specs.Origins.{OriginValue}
+use Rattle.sampled_profile.specs.Profiles.{profile_of, tables}
+use Rattle.sampled_profile.specs.Told.{Gives}
+use Rattle.sampled_profile.proofs.ProfileLemmas.{due_counted, failed_profile, profile_folded, profile_adds_up}
 use Rattle.sampled_profile.proofs.profile.profile_of.Goals as goal
 
+pub returns-in_err-stacks-clause-exact : goal.returns-in_err-stacks-clause-exact
+returns-in_err-stacks-clause-exact c =
+    let by = λ (origins : List OriginValue). tables c.args.space.now origins c.args.limit in
+    let origins = c.args.origins.now in
+    subst (λ rs. Gives c.from_residual.result (profile_of (by origins) rs)) c.records.ensures.left
+    (failed_profile c.from_residual.result by origins (records_left c.records.result) c.in_err-stacks.field-0.0 c.from_residual.ensures.1 c.in_err-stacks.ensures)
+
+pub returns-clause-exact : goal.returns-clause-exact
+returns-clause-exact c =
+    let by = λ (origins : List OriginValue). tables c.args.space.now origins c.args.limit in
+    let origins = c.args.origins.now in
+    ap (profile_of (by origins)) (sym c.records.ensures.left) ∙ due_counted by origins (records_left c.records.result) c.in_ok-stacks.stacks c.in_ok-counts.counts c.in_ok-stacks.ensures c.in_ok-counts.ensures
+
 pub returns-clause-lines : goal.returns-clause-lines
-returns-clause-lines c = profile_folded (tables c.args.space.now c.args.origins.now c.args.limit) c.args.file.now.records (records_left c.records.result) c.in_ok-counts.counts c.records.ensures.left c.in_ok-counts.ensures
+returns-clause-lines c =
+    let by = λ (origins : List OriginValue). tables c.args.space.now origins c.args.limit in
+    let origins = c.args.origins.now in
+    profile_folded (by origins) c.args.file.now.records (records_left c.records.result) c.in_ok-counts.counts c.records.ensures.left
+    (due_counted by origins (records_left c.records.result) c.in_ok-stacks.stacks c.in_ok-counts.counts c.in_ok-stacks.ensures c.in_ok-counts.ensures)
 
 pub returns-clause-adds_up : goal.returns-clause-adds_up
-returns-clause-adds_up c = profile_adds_up (tables c.args.space.now c.args.origins.now c.args.limit) c.args.file.now.records (records_left c.records.result) c.in_ok-counts.counts c.records.ensures.left c.in_ok-counts.ensures
+returns-clause-adds_up c =
+    let by = λ (origins : List OriginValue). tables c.args.space.now origins c.args.limit in
+    let origins = c.args.origins.now in
+    profile_adds_up (by origins) c.args.file.now.records (records_left c.records.result) c.in_ok-counts.counts c.records.ensures.left
+    (due_counted by origins (records_left c.records.result) c.in_ok-stacks.stacks c.in_ok-counts.counts c.in_ok-stacks.ensures c.in_ok-counts.ensures)

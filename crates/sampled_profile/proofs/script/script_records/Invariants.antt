@@ -5,9 +5,9 @@ use Rattle.sampled_profile.specs.Kept.{IsScript}
 use Rattle.sampled_profile.specs.Profiles.{read_after, read_all, tables}
 use Rattle.sampled_profile.proofs.script.script_records.Given as goal
 
-abbrev pub invariant-loop-item : goal.invariant-loop-item
-invariant-loop-item l =
+abbrev pub invariant-loop-script : goal.invariant-loop-script
+invariant-loop-script l =
     (earlier : List RecordValue) × (read_after earlier (records_left l.records) ≡ read_all (records_left l.fn.records)) × IsScript (tables l.space l.origins l.limit) l.script earlier
 
-abbrev pub decreases-loop-item : goal.decreases-loop-item
-decreases-loop-item l = length (records_left l.records)
+abbrev pub decreases-loop-script : goal.decreases-loop-script
+decreases-loop-script l = length (records_left l.records)

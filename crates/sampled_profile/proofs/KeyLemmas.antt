@@ -1,0 +1,61 @@
+-- When two stacks are the same one to a map.
+use Rattle.std.proofs.Common.{◌≡◌, ℕ, Bool, true, false, cond, ◌&&◌, List, ◌∷◌, [], Option, Some, None, Bor, refl, sym, ap, ◌∙◌, rules}
+use Rattle.std.specs.Prelude.{nat_eq}
+use Rattle.std.specs.Option.{option_eq, option_map}
+use Rattle.std.specs.Cmp.Lexicographic.{pointwise, bytes_decides}
+use Rattle.std.specs.Map.{lookup}
+use denote.Enum.Bare.{same_true}
+use Rattle.stack_snapshot.specs.Origins.{OriginValue}
+use Rattle.sampled_profile.specs.declared.stack_end.StackEnd.{StackEnd}
+use Rattle.sampled_profile.specs.declared.stack_table.SampledStack.{SampledStack}
+use Rattle.sampled_profile.specs.contracts.stack_end.StackEnd.{the_type}
+use Rattle.sampled_profile.specs.contracts.stack_end.StackEndPartialEq.TheImpl as ends
+use Rattle.sampled_profile.specs.contracts.stack_table.SampledStackPartialEq.TheImpl as stacks
+use Rattle.sampled_profile.specs.Tables.{shown_text}
+use Rattle.sampled_profile.specs.Texts.{stack_text}
+
+both_true : (a b : Bool) → (a && b) ≡ true → (a ≡ true) × (b ≡ true)
+both_true true true e = (refl, refl)
+both_true true false e = absurd cc
+both_true false b e = absurd cc
+
+abbrev same_name : Option (Bor (List ℕ)) → Option (Bor (List ℕ)) → Bool
+same_name = option_eq (λ x y. pointwise nat_eq x.now y.now)
+
+-- a stack of this name, end and return addresses is that of a key
+abbrev key_eq : Option (Bor (List ℕ)) → StackEnd → List ℕ → SampledStack → Bool
+key_eq name end returns k = same_name name k.name && (ends.eq-value.it end k.end && pointwise nat_eq returns k.returns.items)
+
+eq_is : (a k : SampledStack) → stacks.eq-value.it a k ≡ key_eq a.name a.end a.returns.items k
+eq_is a k = refl
+
+-- a copy is the same as each key that the stack is the same as
+pub copy_same : (a b : SampledStack) → a.name ≡ b.name → a.end ≡ b.end → a.returns.items ≡ b.returns.items → (k : SampledStack) → stacks.eq-value.it a k ≡ stacks.eq-value.it b k
+copy_same a b names ends returns k = eq_is a k ∙ ((λ i. key_eq (names i) (ends i) (returns i) k) ∙ sym (eq_is b k))
+
+-- and what is told of stacks that are the same is the same
+names_same : (m n : Option (Bor (List ℕ))) → same_name m n ≡ true → option_map (λ (x : Bor (List ℕ)). x.now) m ≡ option_map (λ (x : Bor (List ℕ)). x.now) n
+names_same None None e = refl
+names_same None (Some y) e = absurd cc
+names_same (Some x) None e = absurd cc
+names_same (Some x) (Some y) e = ap (λ (t : List ℕ). Some t) ((bytes_decides x.now y.now).0 e)
+
+ends_same : (a b : StackEnd) → ends.eq-value.it a b ≡ true → a ≡ b
+ends_same a b e = same_true the_type (search rules) a b e
+
+pub same_text : (a k : SampledStack) → stacks.eq-value.it a k ≡ true → (origins : List OriginValue) → shown_text origins k ≡ shown_text origins a
+same_text a k e origins =
+    let parts = both_true (same_name a.name k.name) (ends.eq-value.it a.end k.end && pointwise nat_eq a.returns.items k.returns.items) (sym (eq_is a k) ∙ e) in
+    let others = both_true (ends.eq-value.it a.end k.end) (pointwise nat_eq a.returns.items k.returns.items) parts.1 in
+    let name = names_same a.name k.name parts.0 in
+    let end = ends_same a.end k.end others.0 in
+    let returns = (bytes_decides a.returns.items k.returns.items).0 others.1 in
+    sym (λ i. stack_text origins (name i) (record { returns = returns i; end = end i }))
+
+pub copy_text : (a b : SampledStack) → a.name ≡ b.name → a.end ≡ b.end → a.returns.items ≡ b.returns.items → (origins : List OriginValue) → shown_text origins a ≡ shown_text origins b
+copy_text a b names ends returns origins = λ i. stack_text origins (option_map (λ (x : Bor (List ℕ)). x.now) (names i)) (record { returns = returns i; end = ends i })
+
+-- tests that answer alike find the same
+pub lookup_same : {K X : Type 0} (test other : K → Bool) (es : List (K × X)) → ((k : K) → test k ≡ other k) → lookup test es ≡ lookup other es
+lookup_same test other [] same = refl
+lookup_same {X = X} test other (e ∷ es) same = ap (λ b. cond b (Some e.1) (lookup test es)) (same e.0) ∙ ap (λ (o : Option X). cond (other e.0) (Some e.1) o) (lookup_same test other es same)

@@ -1,0 +1,41 @@
+-- The walk of a sample doesn't depend on which modules are prepared.
+use Rattle.std.proofs.Common.{◌≡◌, ℕ, zero, suc, Bool, true, List, Option, Some, None, Result, Ok, Err, refl, ap, ◌∙◌}
+use Rattle.unwind_arch.specs.declared.x86_64.Context.{Context}
+use Rattle.format_frames.specs.declared.machine.Stepped.{Stepped}
+use Rattle.perf_data.specs.Samples.{SampleValue}
+use Rattle.stack_steps.specs.declared.error.DeliverError.{DeliverError}
+use Rattle.stack_steps.specs.Modules.{Added, SpaceValue}
+use Rattle.stack_steps.specs.Stepping.{step_of}
+use Rattle.stack_walks.specs.WalkEnds.{caller_in, caller_from, start_state, contexts_to_end}
+use Rattle.stack_walks.proofs.Reaching.{same_reached}
+use Rattle.delivery_laws.proofs.SameAnswers.{step_same}
+use Rattle.sampled_profile.specs.declared.stack_end.StackEnd.{StackEnd}
+use Rattle.sampled_profile.specs.Ends.{returns_of}
+use Rattle.sampled_profile.specs.Walks.{end_after, end_of, sample_space, start_of, walk_by, walk_from, walk_of}
+
+module _ (s : SpaceValue) (added : List Added) where
+  abbrev pub other : SpaceValue
+  other = record s { added = added }
+
+  pub front_same : (limit : ℕ) (c : Context) → contexts_to_end other limit c true ≡ contexts_to_end s limit c true
+  front_same limit c = ap (λ r. r.contexts) (same_reached (caller_from other) (caller_from s) (λ t. ap caller_in (step_same s added t.context t.signal)) limit (start_state c true))
+
+  pub end_same : (limit : ℕ) (c : Context) (interrupted : Bool) → end_of other limit c interrupted ≡ end_of s limit c interrupted
+  end_same zero c interrupted = refl
+  end_same (suc room) c interrupted = ap (λ (r : Result (Option Stepped) DeliverError). end_after c r (end_of other room)) (step_same s added c interrupted) ∙ go (step_of s c interrupted) (end_same room)
+    where
+      go : (r : Result (Option Stepped) DeliverError) → ((d : Context) (marked : Bool) → end_of other room d marked ≡ end_of s room d marked) → end_after c r (end_of other room) ≡ end_after c r (end_of s room)
+      go (Err e) outer = refl
+      go (Ok None) outer = refl
+      go (Ok (Some t)) outer = outer t.context t.signal
+
+  from_same : (limit : ℕ) (c : Context) → walk_from other limit c ≡ walk_from s limit c
+  from_same limit c = let states = front_same limit c in let last = end_same limit c true in λ i. record { returns = returns_of (states i); end = last i }
+
+module _ (s : SpaceValue) (added : List Added) (limit : ℕ) where
+  by_same : (stack : List ℕ) (start : Result Context StackEnd) → walk_by (other s added) limit stack start ≡ walk_by s limit stack start
+  by_same stack (Ok c) = from_same (sample_space s c stack) added limit c
+  by_same stack (Err end) = refl
+
+  pub walk_same : (sample : SampleValue) → walk_of (other s added) limit sample ≡ walk_of s limit sample
+  walk_same sample = by_same sample.stack (start_of sample.registers)

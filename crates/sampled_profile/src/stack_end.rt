@@ -1,0 +1,40 @@
+// Why a stack is told no further.
+ghost use Rattle.std.specs.Prelude.{◌≡◌};
+ghost use Rattle.std.specs.Option.{option_map};
+ghost use Rattle.sampled_profile.specs.Ends.{end_word};
+
+/// Why a stack is told no further, or why none is told.
+#[derive(Clone, Copy, Debug, PartialEq, Eq, Hash)]
+pub enum StackEnd {
+    /// The last frame returns to 0.
+    Outermost,
+    /// Nothing is known of the last frame's instruction.
+    NoTable,
+    /// A word that is read isn't mapped, as after the end of the copy.
+    Cut,
+    /// The step has another fault.
+    Refused,
+    /// The most frames are told.
+    Limit,
+    /// The sample has no registers.
+    NoRegisters,
+    /// The registers are those of a program of 32 bits.
+    Narrow,
+}
+
+impl StackEnd {
+    /// The word that stands for it, unless the last frame is the outermost.
+    pub(crate) fn word(self) -> Option<&'static str>
+        ensures { option_map (λ word. word.now) result ≡ end_word self }
+    {
+        match self {
+            StackEnd::Outermost => None,
+            StackEnd::NoTable => Some("[no table]"),
+            StackEnd::Cut => Some("[cut]"),
+            StackEnd::Refused => Some("[refused]"),
+            StackEnd::Limit => Some("[limit]"),
+            StackEnd::NoRegisters => Some("[no registers]"),
+            StackEnd::Narrow => Some("[32 bits]"),
+        }
+    }
+}
