@@ -10,8 +10,8 @@ use Rattle.unwind_arch.specs.declared.x86_64.Context.{Context}
 use Rattle.fde_finders.specs.Finding.{FoundFde}
 use Rattle.stack_walks.specs.declared.room.Trail.{Trail}
 use Rattle.format_frames.specs.declared.machine.Stepped.{Stepped}
-use Rattle.stack_steps.specs.declared.answers.DeliverError.{DeliverError}
-use Rattle.stack_steps.specs.declared.answers.DeliverError.TheVariants.{FrameLimit, PassLimit, NoResume}
+use Rattle.stack_steps.specs.declared.error.DeliverError.{DeliverError}
+use Rattle.stack_steps.specs.declared.error.DeliverError.TheVariants.{FrameLimit, PassLimit, NoResume}
 use Rattle.stack_steps.specs.Modules.{SpaceValue}
 use Rattle.stack_deliver.specs.Resumes.{return_of}
 use Rattle.stack_steps.specs.Stepping.{step_of, frame_of, caller_by}
@@ -25,11 +25,11 @@ use Rattle.stack_steps.specs.Macho.{compact_table}
 use Rattle.stack_steps.specs.Asking.{named_table}
 use Rattle.stack_steps.specs.Pe.{recorded_table}
 use Rattle.stack_steps.specs.Elf.{table_if_named}
-use Rattle.stack_walks.specs.Turns.{Pass, cleaning, searching, turn_at, stops, Line, Stop, Turn, Ends, Stops, Goes, turn_of, with_context, line_turn, pass_of, mark_at, turn_for}
-use Rattle.stack_deliver.specs.Passes.{PassEnd, Finishes, Elsewhere, end_of, cleanup_of, cleanup_at, resume_at, CleanupsRun, with_cleanup, cleanup_and_rest, after_pass, passes_of}
+use Rattle.stack_walks.specs.FrameVisits.{Pass, cleaning, searching, visit_at, stops, Line, Stop, FrameVisit, Ends, Stops, Goes, visit_of, with_context, line_visit, pass_of, mark_at, visit_for}
+use Rattle.stack_deliver.specs.Passes.{PassEnd, Finishes, Cleanup, end_of, cleanup_of, cleanup_at, resume_at, CleanupsRun, with_cleanup, cleanup_and_rest, after_pass, passes_of}
 use Rattle.stack_deliver.specs.StackDelivery.{delivery_after, delivery_at, delivery_to, delivery_by, delivery_through}
 use Rattle.stack_steps.proofs.StepParts.{some_next, stepped_by, step_is}
-use Rattle.stack_deliver.proofs.TurnParts.{goes, turn_asked, turn_by}
+use Rattle.stack_deliver.proofs.VisitParts.{goes, visit_asked, visit_by}
 use Rattle.stack_walks.proofs.LineAnswers.{IsStepFault, OnStepFault, step_faults}
 use Rattle.stack_deliver.specs.Causes.{TakenAt, SomePass, TrailIsFull, HasNoReturn, InPasses}
 
@@ -57,14 +57,14 @@ module _ (languages : Languages) (space : SpaceValue) (exception kept : ℕ) (re
     where
       go : (r : Result PassEnd DeliverError) → cleanup_of languages space exception kept limit c ≡ r → after_pass r (λ pad entered. Err PassLimit) ≡ Err e → RefusesNow e zero c
       go (Ok (Finishes ending)) is h = absurd cc
-      go (Ok (Elsewhere pad entered)) is h = inr (inl (sym (same_error PassLimit e h), (refl, (pad, entered, is))))
+      go (Ok (Cleanup pad entered)) is h = inr (inl (sym (same_error PassLimit e h), (refl, (pad, entered, is))))
       go (Err x) is h = inl (is ∙ ap (λ (y : DeliverError). failed y) (same_error x e h))
         where
           failed : DeliverError → Result PassEnd DeliverError
           failed y = Err y
   refused_in (suc n) c e fails = go (cleanup_of languages space exception kept limit c) refl (λ d h. refused_in n d e h) fails
     where
-      at_return : (pad : ℕ) (entered : Context) (o : Option ℕ) → cleanup_of languages space exception kept limit c ≡ Ok (Elsewhere pad entered) → return_of resumes pad ≡ o → ((d : Context) → passes n d ≡ Err e → SomePass languages space exception kept resumes limit (RefusesNow e) n d) →
+      at_return : (pad : ℕ) (entered : Context) (o : Option ℕ) → cleanup_of languages space exception kept limit c ≡ Ok (Cleanup pad entered) → return_of resumes pad ≡ o → ((d : Context) → passes n d ≡ Err e → SomePass languages space exception kept resumes limit (RefusesNow e) n d) →
           cleanup_and_rest (cleanup_at pad entered) (resume_at pad entered o) (passes n) ≡ Err e → SomePass languages space exception kept resumes limit (RefusesNow e) (suc n) c
       at_return pad entered None is found outer h = inl (inr (inr (pad, sym (same_error (NoResume pad) e h), (omega arith, (entered, is, found)))))
       at_return pad entered (Some ret) is found outer h = inr (pad, entered, ret, is, found, outer (record entered { ra = ret }) (cleanup_error (cleanup_at pad entered) (passes n (record entered { ra = ret })) e h))
@@ -75,7 +75,7 @@ module _ (languages : Languages) (space : SpaceValue) (exception kept : ℕ) (re
       go : (r : Result PassEnd DeliverError) → cleanup_of languages space exception kept limit c ≡ r → ((d : Context) → passes n d ≡ Err e → SomePass languages space exception kept resumes limit (RefusesNow e) n d) → after_pass r (later n) ≡ Err e →
           SomePass languages space exception kept resumes limit (RefusesNow e) (suc n) c
       go (Ok (Finishes ending)) is outer h = absurd cc
-      go (Ok (Elsewhere pad entered)) is outer h = at_return pad entered (return_of resumes pad) is refl outer h
+      go (Ok (Cleanup pad entered)) is outer h = at_return pad entered (return_of resumes pad) is refl outer h
       go (Err x) is outer h = inl (inl (is ∙ ap failed (same_error x e h)))
 
   -- a pass that is refused refuses all
@@ -107,9 +107,9 @@ module _ (languages : Languages) (space : SpaceValue) (exception kept : ℕ) (re
 -- ---- a pass's own errors are faults and its limit
 
 module _ (space : SpaceValue) where
-  pub turn_faults : (p : Pass) (c : Context) (interrupted : Bool) → OnStepFault (turn_of p space c interrupted)
-  unfolding turn_for
-  turn_faults p c interrupted = by_frame (frame_of space c interrupted) refl
+  pub visit_faults : (p : Pass) (c : Context) (interrupted : Bool) → OnStepFault (visit_of p space c interrupted)
+  unfolding visit_for
+  visit_faults p c interrupted = by_frame (frame_of space c interrupted) refl
     where
       of_step : (e : DeliverError) → step_of space c interrupted ≡ Err e → IsStepFault e
       of_step e fails = subst OnStepFault fails (step_faults space c interrupted)
@@ -118,11 +118,11 @@ module _ (space : SpaceValue) where
       by_caller f framed (Ok next) is = tt
       by_caller f framed (Err e) is = of_step e (step_is space c interrupted ∙ ap (stepped_by space.image c) framed ∙ ap some_next is)
 
-      by_test : (f : FrameAt) → frame_of space c interrupted ≡ Ok (Some f) → (asked : FrameAction) (b : Bool) → OnStepFault (turn_at space.image c f (cond b (Some asked) None))
+      by_test : (f : FrameAt) → frame_of space c interrupted ≡ Ok (Some f) → (asked : FrameAction) (b : Bool) → OnStepFault (visit_at space.image c f (cond b (Some asked) None))
       by_test f framed asked true = tt
       by_test f framed asked false = by_caller f framed (caller_by space.image c f) refl
 
-      by_action : (f : FrameAt) → frame_of space c interrupted ≡ Ok (Some f) → (r : Result FrameAction DeliverError) → OnStepFault r → OnStepFault (turn_asked p space.image c f r)
+      by_action : (f : FrameAt) → frame_of space c interrupted ≡ Ok (Some f) → (r : Result FrameAction DeliverError) → OnStepFault r → OnStepFault (visit_asked p space.image c f r)
       by_action f framed (Ok asked) on = by_test f framed asked (stops p.phase asked)
       by_action f framed (Err e) on = on
 
@@ -162,7 +162,7 @@ module _ (space : SpaceValue) where
       asks : (f : FrameAt) → OnStepFault (frame_asks p.languages space.image c interrupted f)
       asks f = by_named f (named_table space.image f) (named f)
 
-      by_frame : (r : Result (Option FrameAt) DeliverError) → frame_of space c interrupted ≡ r → OnStepFault (turn_by p space.image c interrupted r)
+      by_frame : (r : Result (Option FrameAt) DeliverError) → frame_of space c interrupted ≡ r → OnStepFault (visit_by p space.image c interrupted r)
       by_frame (Ok None) is = tt
       by_frame (Ok (Some f)) is = by_action f is (frame_asks p.languages space.image c interrupted f) (asks f)
       by_frame (Err e) is = of_step e (step_is space c interrupted ∙ ap (stepped_by space.image c) is)
@@ -180,9 +180,9 @@ module _ (space : SpaceValue) where
 
   pass_faults_only : (p : Pass) (room : ℕ) (c : Context) (interrupted : Bool) → OnPass (pass_of p space room c interrupted)
   pass_faults_only p zero c interrupted = inl refl
-  pass_faults_only p (suc room) c interrupted = go (turn_of p space c interrupted) (turn_faults p c interrupted) (λ d mark. pass_faults_only p room d mark)
+  pass_faults_only p (suc room) c interrupted = go (visit_of p space c interrupted) (visit_faults p c interrupted) (λ d mark. pass_faults_only p room d mark)
     where
-      go : (r : Result Turn DeliverError) → OnStepFault r → ((d : Context) (mark : Bool) → OnPass (pass_of p space room d mark)) → OnPass (line_turn c interrupted r (pass_of p space room))
+      go : (r : Result FrameVisit DeliverError) → OnStepFault r → ((d : Context) (mark : Bool) → OnPass (pass_of p space room d mark)) → OnPass (line_visit c interrupted r (pass_of p space room))
       go (Ok Ends) on outer = tt
       go (Ok (Stops asked past)) on outer = tt
       go (Ok (Goes next)) on outer = context_on c (pass_of p space room next.context next.signal) (outer next.context next.signal)

@@ -22,8 +22,8 @@ use Rattle.pe_unwind_info.specs.Handlers.{OwnRecord, handler_named, handler_or_f
 use Rattle.format_frames.specs.Handlers.{macho_place, handler_place, pe_place}
 use Rattle.format_frames.specs.declared.machine.Stepped.{Stepped}
 use Rattle.stack_walks.specs.declared.room.Trail.{Trail}
-use Rattle.stack_steps.specs.declared.answers.DeliverError.{DeliverError}
-use Rattle.stack_steps.specs.declared.answers.DeliverError.TheVariants.{NoMemory, Unmapped, FrameLimit, PassLimit, NoResume, Table, MachO, CompactForm, PeInfo, ChainLimit}
+use Rattle.stack_steps.specs.declared.error.DeliverError.{DeliverError}
+use Rattle.stack_steps.specs.declared.error.DeliverError.TheVariants.{NoMemory, Unmapped, FrameLimit, PassLimit, NoResume, Table, MachO, CompactForm, PeInfo, ChainLimit}
 use Rattle.stack_steps.specs.declared.asking.FrameAction.{FrameAction}
 use Rattle.stack_steps.specs.Languages.{Languages, asks_if_named, frame_asks, is_taken, routine_of}
 use Rattle.stack_steps.specs.Modules.{SpaceValue}
@@ -34,11 +34,11 @@ use Rattle.stack_steps.specs.Macho.{compact_table}
 use Rattle.stack_steps.specs.Elf.{table as described_table, table_if_named}
 use Rattle.stack_steps.specs.Asking.{named_table}
 use Rattle.stack_steps.specs.Pe.{recorded_table}
-use Rattle.stack_walks.specs.Turns.{Pass, cleaning, searching, turn_at, stops, Turn, Ends, Stops, Goes, turn_of, Line, with_context, line_turn, pass_of, mark_at, Stop, turn_for}
-use Rattle.stack_deliver.specs.Passes.{PassEnd, Finishes, Elsewhere, end_of, cleanup_of, cleanup_at, resume_at, CleanupsRun, with_cleanup, cleanup_and_rest, after_pass, passes_of}
+use Rattle.stack_walks.specs.FrameVisits.{Pass, cleaning, searching, visit_at, stops, FrameVisit, Ends, Stops, Goes, visit_of, Line, with_context, line_visit, pass_of, mark_at, Stop, visit_for}
+use Rattle.stack_deliver.specs.Passes.{PassEnd, Finishes, Cleanup, end_of, cleanup_of, cleanup_at, resume_at, CleanupsRun, with_cleanup, cleanup_and_rest, after_pass, passes_of}
 use Rattle.stack_deliver.specs.StackDelivery.{delivery_after, delivery_at, delivery_to, delivery_by, delivery_through}
 use Rattle.stack_steps.proofs.StepParts.{some_next, stepped_by, step_is}
-use Rattle.stack_deliver.proofs.TurnParts.{goes, turn_asked, turn_by}
+use Rattle.stack_deliver.proofs.VisitParts.{goes, visit_asked, visit_by}
 use Rattle.stack_walks.proofs.LineAnswers.{IsStepFault, OnStepFault, step_faults}
 use Rattle.stack_steps.proofs.StepAnswers.{step_unmapped}
 
@@ -178,23 +178,23 @@ asked_cause languages image c interrupted f = go (named_table image f) (named_ca
 -- ---- passes
 
 module _ (space : SpaceValue) where
-  turn_cause : (p : Pass) (c : Context) (interrupted : Bool) → OnCause space.image (turn_of p space c interrupted)
-  unfolding turn_for
-  turn_cause p c interrupted = by_frame (frame_of space c interrupted) refl
+  visit_cause : (p : Pass) (c : Context) (interrupted : Bool) → OnCause space.image (visit_of p space c interrupted)
+  unfolding visit_for
+  visit_cause p c interrupted = by_frame (frame_of space c interrupted) refl
     where
       by_caller : (f : FrameAt) → frame_of space c interrupted ≡ Ok (Some f) → (r : Result Stepped DeliverError) → caller_by space.image c f ≡ r → OnCause space.image (goes r)
       by_caller f framed (Ok next) is = tt
       by_caller f framed (Err e) is = step_cause space c interrupted e (step_is space c interrupted ∙ ap (stepped_by space.image c) framed ∙ ap some_next is)
 
-      by_test : (f : FrameAt) → frame_of space c interrupted ≡ Ok (Some f) → (asked : FrameAction) (b : Bool) → OnCause space.image (turn_at space.image c f (cond b (Some asked) None))
+      by_test : (f : FrameAt) → frame_of space c interrupted ≡ Ok (Some f) → (asked : FrameAction) (b : Bool) → OnCause space.image (visit_at space.image c f (cond b (Some asked) None))
       by_test f framed asked true = tt
       by_test f framed asked false = by_caller f framed (caller_by space.image c f) refl
 
-      by_action : (f : FrameAt) → frame_of space c interrupted ≡ Ok (Some f) → (r : Result FrameAction DeliverError) → OnCause space.image r → OnCause space.image (turn_asked p space.image c f r)
+      by_action : (f : FrameAt) → frame_of space c interrupted ≡ Ok (Some f) → (r : Result FrameAction DeliverError) → OnCause space.image r → OnCause space.image (visit_asked p space.image c f r)
       by_action f framed (Ok asked) on = by_test f framed asked (stops p.phase asked)
       by_action f framed (Err e) on = on
 
-      by_frame : (r : Result (Option FrameAt) DeliverError) → frame_of space c interrupted ≡ r → OnCause space.image (turn_by p space.image c interrupted r)
+      by_frame : (r : Result (Option FrameAt) DeliverError) → frame_of space c interrupted ≡ r → OnCause space.image (visit_by p space.image c interrupted r)
       by_frame (Ok None) is = tt
       by_frame (Ok (Some f)) is = by_action f is (frame_asks p.languages space.image c interrupted f) (asked_cause p.languages space.image c interrupted f)
       by_frame (Err e) is = step_cause space c interrupted e (step_is space c interrupted ∙ ap (stepped_by space.image c) is)
@@ -205,9 +205,9 @@ module _ (space : SpaceValue) where
 
   pub pass_cause : (p : Pass) (room : ℕ) (c : Context) (interrupted : Bool) → OnCause space.image (pass_of p space room c interrupted)
   pass_cause p zero c interrupted = tt
-  pass_cause p (suc room) c interrupted = go (turn_of p space c interrupted) (turn_cause p c interrupted) (λ d mark. pass_cause p room d mark)
+  pass_cause p (suc room) c interrupted = go (visit_of p space c interrupted) (visit_cause p c interrupted) (λ d mark. pass_cause p room d mark)
     where
-      go : (r : Result Turn DeliverError) → OnCause space.image r → ((d : Context) (mark : Bool) → OnCause space.image (pass_of p space room d mark)) → OnCause space.image (line_turn c interrupted r (pass_of p space room))
+      go : (r : Result FrameVisit DeliverError) → OnCause space.image r → ((d : Context) (mark : Bool) → OnCause space.image (pass_of p space room d mark)) → OnCause space.image (line_visit c interrupted r (pass_of p space room))
       go (Ok Ends) on later = tt
       go (Ok (Stops asked past)) on later = tt
       go (Ok (Goes next)) on later = context_cause c (pass_of p space room next.context next.signal) (later next.context next.signal)
@@ -227,7 +227,7 @@ module _ (space : SpaceValue) where
       where
         go : (r : Result PassEnd DeliverError) → OnCause space.image r → OnCause space.image (after_pass r (λ pad entered. Err PassLimit))
         go (Ok (Finishes ending)) on = tt
-        go (Ok (Elsewhere pad d)) on = tt
+        go (Ok (Cleanup pad d)) on = tt
         go (Err e) on = on
     passes_cause (suc n) c = go (cleanup_of languages space exception kept limit c) (end_cause exception kept (pass_of (cleaning languages) space limit c false) (pass_cause (cleaning languages) limit c false)) (λ d. passes_cause n d)
       where
@@ -238,7 +238,7 @@ module _ (space : SpaceValue) where
         go : (r : Result PassEnd DeliverError) → OnCause space.image r → ((d : Context) → OnCause space.image (passes_of languages space exception kept resumes limit n d)) →
             OnCause space.image (after_pass r (λ pad entered. cleanup_and_rest (cleanup_at pad entered) (resume_at pad entered (return_of resumes pad)) (passes_of languages space exception kept resumes limit n)))
         go (Ok (Finishes ending)) on later = tt
-        go (Ok (Elsewhere pad d)) on later = by_resume pad d (return_of resumes pad) later
+        go (Ok (Cleanup pad d)) on later = by_resume pad d (return_of resumes pad) later
         go (Err e) on later = on
 
   after_cause : (visited : List Context) (r : Result CleanupsRun DeliverError) → OnCause space.image r → OnCause space.image (delivery_after visited r)

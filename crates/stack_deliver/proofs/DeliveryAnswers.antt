@@ -2,29 +2,29 @@
 use Rattle.std.proofs.Common.{inl, inr, ◌≡◌, ◌≢◌, ℕ, zero, suc, Bool, true, false, List, Option, Some, None, Result, Ok, Err, refl, sym, ap, subst, ◌∙◌}
 use Rattle.std.specs.Prelude.{◌⊎◌}
 use Rattle.unwind_arch.specs.declared.x86_64.Context.{Context}
-use Rattle.stack_deliver.specs.declared.answers.Ending.{Ending}
-use Rattle.stack_deliver.specs.declared.answers.Outcome.{Outcome}
-use Rattle.stack_deliver.specs.declared.answers.Outcome.TheVariants.{Installed, EndOfStack, FatalPhase1, FatalPhase2}
-use Rattle.stack_steps.specs.declared.answers.DeliverError.{DeliverError}
-use Rattle.stack_steps.specs.declared.answers.DeliverError.TheVariants.{NoMemory, Unmapped, FrameLimit, PassLimit, NoResume, Table, MachO, CompactForm, PeInfo, ChainLimit}
+use Rattle.stack_deliver.specs.declared.outcome.Ending.{Ending}
+use Rattle.stack_deliver.specs.declared.outcome.Outcome.{Outcome}
+use Rattle.stack_deliver.specs.declared.outcome.Outcome.TheVariants.{Installed, EndOfStack, FatalPhase1, FatalPhase2}
+use Rattle.stack_steps.specs.declared.error.DeliverError.{DeliverError}
+use Rattle.stack_steps.specs.declared.error.DeliverError.TheVariants.{NoMemory, Unmapped, FrameLimit, PassLimit, NoResume, Table, MachO, CompactForm, PeInfo, ChainLimit}
 use Rattle.stack_steps.specs.Languages.{Languages, is_taken}
 use Rattle.stack_steps.specs.Modules.{SpaceValue}
 use Rattle.stack_walks.proofs.LineAnswers.{IsStepFault}
-use Rattle.stack_walks.specs.Turns.{Line, Pass, Stop, cleaning, pass_of, mark_at, searching}
+use Rattle.stack_walks.specs.FrameVisits.{Line, Pass, Stop, cleaning, pass_of, mark_at, searching}
 use Rattle.stack_deliver.specs.Passes.{cleanup_of, CleanupsRun, passes_of}
-use Rattle.stack_walks.proofs.TurnLines.{stop_in}
+use Rattle.stack_walks.proofs.VisitLines.{stop_in}
 use Rattle.stack_deliver.specs.StackDelivery.{DeliveryValue, delivery_after, no_delivery, delivery_at, delivery_to, delivery_by, delivery_through}
 use Rattle.stack_deliver.specs.Causes.{CantRead, Meets, GoesOnFrom}
 use Rattle.stack_deliver.specs.Causes.{TakenAt, SomePass, NeedMore, MeetFault, IsRefusedThrough, EndsThrough}
-use Rattle.stack_deliver.proofs.MeetAnswers.{turn_fails, more_pass, meets_never}
-use Rattle.stack_deliver.proofs.CauseAnswers.{RefusesNow, refused_in, some_refused, some_pass, turn_faults, refused_either, search_refuses, refuses, limit_met, met_limit, unresumed, no_return}
+use Rattle.stack_deliver.proofs.MeetAnswers.{visit_fails, more_pass, meets_never}
+use Rattle.stack_deliver.proofs.CauseAnswers.{RefusesNow, refused_in, some_refused, some_pass, visit_faults, refused_either, search_refuses, refuses, limit_met, met_limit, unresumed, no_return}
 use Rattle.stack_deliver.proofs.DeliverFaults.{delivery_memory}
 use Rattle.stack_walks.proofs.LineAnswers.{IsStepFault, OnStepFault}
 use Rattle.stack_deliver.proofs.OutcomeAnswers.{line_stops, line_fails, stop_of, ended_meets, meets_ended, failed_meets, meets_failed, limit_goes, fatal_meets, meets_fatal, Finished, finished, finishes, cleanup_refused, refuses_cleanup, FinishesSo, finished_in, finish_all, some_holds}
 
 -- what can't be read has a fault of tables or of memory
 read_faults : (p : Pass) (space : SpaceValue) (e : DeliverError) → (IsStepFault e → ⊥) → (c : Context) (interrupted : Bool) → CantRead p e space c interrupted → ⊥
-read_faults p space e other c interrupted fails = other (subst OnStepFault (turn_fails p space c interrupted e fails) (turn_faults space p c interrupted))
+read_faults p space e other c interrupted fails = other (subst OnStepFault (visit_fails p space c interrupted e fails) (visit_faults space p c interrupted))
 
 module _ (languages : Languages) (space : SpaceValue) (c : Context) (exception : ℕ) (resumes : List (ℕ × ℕ)) (limit : ℕ) where
   abbrev pub delivery : Result DeliveryValue DeliverError

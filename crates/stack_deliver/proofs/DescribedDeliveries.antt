@@ -32,7 +32,7 @@ use Rattle.stack_steps.proofs.MetCalls.{returns_low}
 use Rattle.stack_walks.proofs.LineShows.{call_in}
 use Rattle.stack_deliver.specs.Delivering.{StartsValidChain}
 use Rattle.stack_deliver.specs.KnownDeliveries.{AsksThere, AreAsked, MayGoOnAt, ResumesBy, EachResumesBy, StartsKnownDelivery}
-use Rattle.stack_deliver.proofs.Turns.{returning}
+use Rattle.stack_deliver.proofs.FrameVisits.{returning}
 
 -- the states of the callers of calls
 abbrev pub callers_of : List Call → List State

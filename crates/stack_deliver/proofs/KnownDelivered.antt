@@ -14,7 +14,7 @@ use Rattle.frame_facts.specs.FactDeliveries.{AskedFrame, AsksAt}
 use Rattle.frame_facts_laws.specs.FactWalks.{DescriptionAsks}
 use Rattle.frame_facts_laws.proofs.FactsAsked.{facts_ask}
 use Rattle.unwind_arch.specs.declared.x86_64.Context.{Context}
-use Rattle.stack_steps.specs.declared.answers.DeliverError.{DeliverError}
+use Rattle.stack_steps.specs.declared.error.DeliverError.{DeliverError}
 use Rattle.stack_steps.specs.declared.asking.FrameAction.{FrameAction}
 use Rattle.stack_steps.specs.Languages.{asked_by_rust, found_in, is_taken, rust_alone}
 use Rattle.stack_steps.specs.Modules.{SpaceValue, AreApart}
@@ -22,7 +22,7 @@ use Rattle.stack_steps.specs.SpaceViews.{process_of}
 use Rattle.stack_steps.specs.KnownStacks.{IsKnownLink, IsKnownStack}
 use Rattle.stack_steps.proofs.ContextLemmas.{IsWhole}
 use Rattle.stack_steps.proofs.LanguageAsks.{described_by_rust}
-use Rattle.stack_walks.specs.Turns.{decides}
+use Rattle.stack_walks.specs.FrameVisits.{decides}
 use Rattle.stack_deliver.specs.KnownDeliveries as known
 use Rattle.stack_deliver.specs.KnownDeliveries.{StartsKnownDelivery, ShowsKnownDelivery}
 use Rattle.stack_deliver.specs.KnownThrows as thrown

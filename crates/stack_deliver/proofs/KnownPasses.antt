@@ -10,31 +10,31 @@ use Rattle.unwind_definitions.specs.Delivery.{Landing, resume_of}
 use Rattle.unwind_laws.proofs.OneChain.{before_cons, before_now}
 use Rattle.unwind_arch.specs.declared.x86_64.Context.{Context}
 use Rattle.unwind_arch.specs.ContextViews.{columns_of}
-use Rattle.stack_steps.specs.declared.answers.DeliverError.{DeliverError}
+use Rattle.stack_steps.specs.declared.error.DeliverError.{DeliverError}
 use Rattle.stack_steps.specs.Modules.{SpaceValue}
 use Rattle.stack_steps.specs.declared.asking.FrameAction.{FrameAction}
 use Rattle.stack_steps.specs.declared.asking.FrameAction.TheVariants.{Nothing, Cleanup, Handler, Terminate, TerminateAfterCleanups}
 use Rattle.stack_steps.specs.KnownFrames.{MeetsAsked}
 use Rattle.stack_steps.specs.Languages.{Languages, is_taken, pad_of, selector_of}
 use Rattle.stack_steps.proofs.ContextLemmas.{IsWhole}
-use Rattle.stack_walks.specs.declared.outward.Phase.TheVariants as phase
+use Rattle.stack_walks.specs.declared.unwind.Phase.TheVariants as phase
 use Rattle.stack_walks.specs.Walking.{EachShows}
-use Rattle.stack_walks.specs.Turns.{Line, Pass, Stop, cleaning, searching, stops, past_arguments, with_context, pass_of, mark_at, enters}
+use Rattle.stack_walks.specs.FrameVisits.{Line, Pass, Stop, cleaning, searching, stops, past_arguments, with_context, pass_of, mark_at, enters}
 use Rattle.stack_walks.specs.ContextsMet.{contexts_met}
-use Rattle.stack_walks.proofs.TurnLines.{stop_at}
-use Rattle.stack_walks.proofs.TurnCounts.{line_met}
-use Rattle.stack_deliver.specs.declared.answers.Outcome.{Outcome}
-use Rattle.stack_deliver.specs.declared.answers.Outcome.TheVariants.{Installed, FatalPhase2}
+use Rattle.stack_walks.proofs.VisitLines.{stop_at}
+use Rattle.stack_walks.proofs.VisitCounts.{line_met}
+use Rattle.stack_deliver.specs.declared.outcome.Outcome.{Outcome}
+use Rattle.stack_deliver.specs.declared.outcome.Outcome.TheVariants.{Installed, FatalPhase2}
 use Rattle.stack_deliver.specs.KnownThrows.{AskingFrame, past, frame_decides, cleanup_pad, cleanup_asked, asking_states, lands_at}
-use Rattle.stack_deliver.specs.declared.answers.Ending.{Ending}
-use Rattle.stack_deliver.specs.Passes.{ending_at, fatal, PassEnd, Finishes, Elsewhere, end_at, end_of, cleanup_at, CleanupsRun, with_cleanup}
+use Rattle.stack_deliver.specs.declared.outcome.Ending.{Ending}
+use Rattle.stack_deliver.specs.Passes.{ending_at, fatal, PassEnd, Finishes, Cleanup, end_at, end_of, cleanup_at, CleanupsRun, with_cleanup}
 use Rattle.stack_deliver.specs.Resumes.{return_of}
 use Rattle.stack_deliver.specs.Searches.{met_in_passes}
 use Rattle.stack_deliver.specs.StateViews.{state_of, landing_of, pair_of}
 use Rattle.stack_deliver.proofs.Chains.{shown_state}
-use Rattle.stack_deliver.proofs.KnownTurns.{stops_there, goes_there, met_there, caller_whole, past_whole, past_shows, IsMet}
+use Rattle.stack_deliver.proofs.KnownVisits.{stops_there, goes_there, met_there, caller_whole, past_whole, past_shows, IsMet}
 use Rattle.stack_deliver.proofs.PassRuns.{resume_same, passes, from_pass, by_pass, goes_on, met_from, met_by, by_count, one_more, finishes_met, cleans_met, finishes, cleans}
-use Rattle.stack_deliver.proofs.Turns.{returning, entered_shows, entered_sp, entered_rax, entered_rdx}
+use Rattle.stack_deliver.proofs.FrameVisits.{returning, entered_shows, entered_sp, entered_rax, entered_rdx}
 
 -- the first of frames that decides, and those before it
 abbrev pub deciding : List AskingFrame → Option AskingFrame
@@ -262,7 +262,7 @@ module _ (languages : Languages) (space : SpaceValue) where
           ok_end : PassEnd → Result PassEnd DeliverError
           ok_end x = Ok x
 
-      elsewhere_now : (pad : ℕ) → f.state.sp < kept → stops phase.Cleanup f.action ≡ true → pad_of f.action ≡ Some pad → end_of exception kept (pass_of (cleaning languages) space room c false) ≡ Ok (Elsewhere pad (enters over exception number pad))
+      elsewhere_now : (pad : ℕ) → f.state.sp < kept → stops phase.Cleanup f.action ≡ true → pad_of f.action ≡ Some pad → end_of exception kept (pass_of (cleaning languages) space room c false) ≡ Ok (Cleanup pad (enters over exception number pad))
       elsewhere_now pad below asks named =
           let mark : mark_at c false ≡ f.state.sp = marked_here in
           let other : eqb (mark_at c false) kept ≡ false = grind (arith, nat_tests) in

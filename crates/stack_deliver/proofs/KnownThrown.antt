@@ -9,7 +9,7 @@ use Rattle.unwind_definitions.specs.State.{State, IsState}
 use Rattle.unwind_definitions.specs.Delivery as described
 use Rattle.unwind_arch.specs.declared.x86_64.Context.{Context}
 use Rattle.unwind_arch.specs.ContextViews.{columns_of}
-use Rattle.stack_steps.specs.declared.answers.DeliverError.{DeliverError}
+use Rattle.stack_steps.specs.declared.error.DeliverError.{DeliverError}
 use Rattle.stack_steps.specs.declared.asking.FrameAction.{FrameAction}
 use Rattle.stack_steps.specs.declared.asking.FrameAction.TheVariants.{Nothing, Cleanup, Handler, Terminate, TerminateAfterCleanups}
 use Rattle.stack_steps.specs.Languages.{Languages, is_taken}
@@ -17,22 +17,22 @@ use Rattle.stack_steps.specs.Modules.{SpaceValue, AreApart}
 use Rattle.stack_steps.specs.KnownStacks.{IsKnownStack, HasNoSignals}
 use Rattle.stack_steps.proofs.ContextLemmas.{IsWhole}
 use Rattle.stack_walks.specs.Walking.{EachShows}
-use Rattle.stack_walks.specs.Turns.{Stop, decides, mark_at, pass_of, searching}
+use Rattle.stack_walks.specs.FrameVisits.{Stop, decides, mark_at, pass_of, searching}
 use Rattle.stack_walks.proofs.KnownLines.{called_state, calls_rise}
-use Rattle.stack_deliver.specs.declared.answers.Outcome.TheVariants.{EndOfStack, FatalPhase1}
+use Rattle.stack_deliver.specs.declared.outcome.Outcome.TheVariants.{EndOfStack, FatalPhase1}
 use Rattle.stack_deliver.specs.KnownThrows.{AskingFrame, AreAsked, MayGoOnAt, ResumesBy, EachResumesBy, StartsKnownThrow, ShowsKnownThrow, asking_states, cleanup_asked, cleanup_pad, decided_by, delivery_taken, frame_decides, lands_at, past}
 use Rattle.stack_deliver.specs.KnownThrows as thrown
 use Rattle.stack_deliver.specs.Passes.{CleanupsRun, passes_of}
 use Rattle.stack_deliver.specs.Searches.{met_in_passes, met_after_stop, met_through}
-use Rattle.stack_walks.proofs.TurnCounts.{line_met}
+use Rattle.stack_walks.proofs.VisitCounts.{line_met}
 use Rattle.std.proofs.lemmas.List.{length-map}
 use Rattle.stack_deliver.specs.StackDelivery.{DeliveryValue, delivery_after, no_delivery, delivery_at, delivery_to, delivery_through}
 use Rattle.stack_deliver.specs.StateViews.{state_of, outcome_of}
 use Rattle.stack_deliver.proofs.Chains.{shown_states}
 use Rattle.stack_deliver.proofs.KnownPasses.{deciding, inside, seen, StopIs, StopShows, SearchShows, AreMet, GoesOnMet, EachGoesOn, search_shows, ends_with, lands_in, passes_show}
-use Rattle.stack_deliver.proofs.KnownTurns.{IsMet, link_met}
+use Rattle.stack_deliver.proofs.KnownVisits.{IsMet, link_met}
 use Rattle.stack_deliver.proofs.PassRuns.{by_pass, by_count}
-use Rattle.stack_deliver.proofs.Turns.{pass_ends_at}
+use Rattle.stack_deliver.proofs.FrameVisits.{pass_ends_at}
 
 -- ---- what is known of a stack is met
 

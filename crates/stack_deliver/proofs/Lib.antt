@@ -11,7 +11,7 @@ pub mod FirstEntry
 pub mod KnownDelivered
 pub mod KnownPasses
 pub mod KnownThrown
-pub mod KnownTurns
+pub mod KnownVisits
 pub mod MeetAnswers
 pub mod OneHeader
 pub mod OutcomeAnswers
@@ -19,6 +19,6 @@ pub mod PassLines
 pub mod PassRuns
 pub mod Returns
 pub mod SearchCounts
-pub mod TurnParts
-pub mod Turns
+pub mod VisitParts
+pub mod FrameVisits
 pub mod Over

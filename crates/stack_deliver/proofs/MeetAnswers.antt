@@ -8,8 +8,8 @@ use Rattle.memory_image.specs.Image.{Span}
 use Rattle.memory_image.specs.Results.{result_map}
 use Rattle.unwind_arch.specs.declared.x86_64.Context.{Context}
 use Rattle.format_frames.specs.declared.machine.Stepped.{Stepped}
-use Rattle.stack_steps.specs.declared.answers.DeliverError.{DeliverError}
-use Rattle.stack_steps.specs.declared.answers.DeliverError.TheVariants.{FrameLimit}
+use Rattle.stack_steps.specs.declared.error.DeliverError.{DeliverError}
+use Rattle.stack_steps.specs.declared.error.DeliverError.TheVariants.{FrameLimit}
 use Rattle.stack_steps.specs.Modules.{SpaceValue}
 use Rattle.stack_steps.specs.Stepping.{step_of, frame_of, caller_by}
 use Rattle.stack_steps.specs.Frames.{FrameAt}
@@ -22,11 +22,11 @@ use Rattle.unwinding_frames.specs.CxxTables as cxx
 use Rattle.unwinding_frames.specs.declared.cxx.error.CxxError.{CxxError}
 use Rattle.unwinding_frames.specs.declared.cxx.runtime.CxxRuntime.{CxxRuntime}
 use Rattle.unwinding_frames.specs.declared.cxx.runtime.CxxRuntime.TheVariants.{Libstdcxx, Libcxxabi}
-use Rattle.stack_walks.specs.Turns.{Pass, turn_at, stops, past_arguments, Line, Stop, Turn, Ends, Stops, Goes, turn_of, with_context, line_turn, pass_of, turn_for}
-use Rattle.stack_walks.proofs.TurnLines.{stop_in}
+use Rattle.stack_walks.specs.FrameVisits.{Pass, visit_at, stops, past_arguments, Line, Stop, FrameVisit, Ends, Stops, Goes, visit_of, with_context, line_visit, pass_of, visit_for}
+use Rattle.stack_walks.proofs.VisitLines.{stop_in}
 use Rattle.stack_deliver.specs.Causes.{Asks, EndsAtOnce, EndsLater, GoesTo, EndsProgram, EndsProgramLater, StackEnds, CantRead, Meets, GoesOnFrom}
 use Rattle.stack_steps.proofs.StepParts.{some_next, stepped_by, step_is, none_framed}
-use Rattle.stack_deliver.proofs.TurnParts.{goes, turn_asked, turn_by}
+use Rattle.stack_deliver.proofs.VisitParts.{goes, visit_asked, visit_by}
 
 -- ---- what names a language table
 
@@ -72,62 +72,62 @@ module _ (p : Pass) (space : SpaceValue) (c : Context) (interrupted : Bool) wher
   next_fails f e is called = step_is space c interrupted ∙ ap (stepped_by space.image c) is ∙ ap some_next called
 
   -- the end of the stack
-  pub turn_ends : StackEnds space c interrupted → turn_of p space c interrupted ≡ Ok Ends
-  unfolding turn_for
-  turn_ends ends = let is : framed ≡ Ok None = none_framed space.image c framed (sym (step_is space c interrupted) ∙ ends) in rw is refl
+  pub visit_ends : StackEnds space c interrupted → visit_of p space c interrupted ≡ Ok Ends
+  unfolding visit_for
+  visit_ends ends = let is : framed ≡ Ok None = none_framed space.image c framed (sym (step_is space c interrupted) ∙ ends) in rw is refl
 
   -- what a turn is, by what it meets
-  abbrev pub IsTurn : Result Turn DeliverError → Type 0
-  IsTurn (Ok Ends) = StackEnds space c interrupted
-  IsTurn (Ok (Stops wanted past)) = Asks p.languages space c interrupted wanted × (stops p.phase wanted ≡ true)
-  IsTurn (Ok (Goes next)) = GoesTo p space c interrupted next
-  IsTurn (Err e) = CantRead p e space c interrupted
+  abbrev pub IsFrameVisit : Result FrameVisit DeliverError → Type 0
+  IsFrameVisit (Ok Ends) = StackEnds space c interrupted
+  IsFrameVisit (Ok (Stops wanted past)) = Asks p.languages space c interrupted wanted × (stops p.phase wanted ≡ true)
+  IsFrameVisit (Ok (Goes next)) = GoesTo p space c interrupted next
+  IsFrameVisit (Err e) = CantRead p e space c interrupted
 
-  by_caller : (f : FrameAt) (wanted : FrameAction) → Asks p.languages space c interrupted wanted → stops p.phase wanted ≡ false → framed ≡ Ok (Some f) → (r : Result Stepped DeliverError) → caller_by space.image c f ≡ r → IsTurn (goes r)
+  by_caller : (f : FrameAt) (wanted : FrameAction) → Asks p.languages space c interrupted wanted → stops p.phase wanted ≡ false → framed ≡ Ok (Some f) → (r : Result Stepped DeliverError) → caller_by space.image c f ≡ r → IsFrameVisit (goes r)
   by_caller f wanted asks silent is (Ok next) called = record { action = wanted; asks = asks; silent = silent; caller = next_is f next is called }
   by_caller f wanted asks silent is (Err e) called = inr (inr (wanted, asks, silent, next_fails f e is called))
 
-  by_test : (f : FrameAt) (wanted : FrameAction) → Asks p.languages space c interrupted wanted → framed ≡ Ok (Some f) → (b : Bool) → stops p.phase wanted ≡ b → IsTurn (turn_at space.image c f (cond b (Some wanted) None))
+  by_test : (f : FrameAt) (wanted : FrameAction) → Asks p.languages space c interrupted wanted → framed ≡ Ok (Some f) → (b : Bool) → stops p.phase wanted ≡ b → IsFrameVisit (visit_at space.image c f (cond b (Some wanted) None))
   by_test f wanted asks is true stopped = (asks, stopped)
   by_test f wanted asks is false silent = by_caller f wanted asks silent is (caller_by space.image c f) refl
 
   handler_fails : (f : FrameAt) (e : DeliverError) → framed ≡ Ok (Some f) → frame_asks p.languages space.image c interrupted f ≡ Err e → CantRead p e space c interrupted
   handler_fails f e is fails = inr (inl (f, is, asked_refused p.languages space.image c interrupted f e fails))
 
-  by_asked : (f : FrameAt) → framed ≡ Ok (Some f) → (r : Result FrameAction DeliverError) → frame_asks p.languages space.image c interrupted f ≡ r → IsTurn (turn_asked p space.image c f r)
+  by_asked : (f : FrameAt) → framed ≡ Ok (Some f) → (r : Result FrameAction DeliverError) → frame_asks p.languages space.image c interrupted f ≡ r → IsFrameVisit (visit_asked p space.image c f r)
   by_asked f is (Ok wanted) asked = by_test f wanted (record { frame = f; framed = is; asked = asked }) is (stops p.phase wanted) refl
   by_asked f is (Err e) asked = handler_fails f e is asked
 
-  by_frame : (r : Result (Option FrameAt) DeliverError) → framed ≡ r → IsTurn (turn_by p space.image c interrupted r)
+  by_frame : (r : Result (Option FrameAt) DeliverError) → framed ≡ r → IsFrameVisit (visit_by p space.image c interrupted r)
   by_frame (Ok None) is = step_is space c interrupted ∙ ap (stepped_by space.image c) is
   by_frame (Ok (Some f)) is = by_asked f is (frame_asks p.languages space.image c interrupted f) refl
   by_frame (Err e) is = inl is
 
-  turn_is : IsTurn (turn_of p space c interrupted)
-  unfolding turn_for
-  turn_is = by_frame framed refl
+  visit_is : IsFrameVisit (visit_of p space c interrupted)
+  unfolding visit_for
+  visit_is = by_frame framed refl
 
-  pub turn_meets : (r : Result Turn DeliverError) → turn_of p space c interrupted ≡ r → IsTurn r
-  turn_meets r is = subst IsTurn is turn_is
+  pub visit_meets : (r : Result FrameVisit DeliverError) → visit_of p space c interrupted ≡ r → IsFrameVisit r
+  visit_meets r is = subst IsFrameVisit is visit_is
 
   -- a frame that asks for something for which the pass stops
-  pub turn_stops : (wanted : FrameAction) → (asks : Asks p.languages space c interrupted wanted) → stops p.phase wanted ≡ true → turn_of p space c interrupted ≡ Ok (Stops wanted (past_arguments c (arguments_of asks.frame)))
-  unfolding turn_for
-  turn_stops wanted asks stopped = rw (asks.framed, asks.asked, stopped) refl
+  pub visit_stops : (wanted : FrameAction) → (asks : Asks p.languages space c interrupted wanted) → stops p.phase wanted ≡ true → visit_of p space c interrupted ≡ Ok (Stops wanted (past_arguments c (arguments_of asks.frame)))
+  unfolding visit_for
+  visit_stops wanted asks stopped = rw (asks.framed, asks.asked, stopped) refl
 
   -- a frame that asks for nothing of that kind
-  pub turn_goes : (next : Stepped) → GoesTo p space c interrupted next → turn_of p space c interrupted ≡ Ok (Goes next)
-  unfolding turn_for
-  turn_goes next to = rw (to.asks.framed, to.asks.asked, to.silent, is_next to.asks.frame next to.asks.framed to.caller) refl
+  pub visit_goes : (next : Stepped) → GoesTo p space c interrupted next → visit_of p space c interrupted ≡ Ok (Goes next)
+  unfolding visit_for
+  visit_goes next to = rw (to.asks.framed, to.asks.asked, to.silent, is_next to.asks.frame next to.asks.framed to.caller) refl
 
   -- what can't be read
-  pub turn_fails : (e : DeliverError) → CantRead p e space c interrupted → turn_of p space c interrupted ≡ Err e
-  unfolding turn_for
-  turn_fails e (inl row) = rw row refl
-  turn_fails e (inr (inl refused)) =
+  pub visit_fails : (e : DeliverError) → CantRead p e space c interrupted → visit_of p space c interrupted ≡ Err e
+  unfolding visit_for
+  visit_fails e (inl row) = rw row refl
+  visit_fails e (inr (inl refused)) =
       let f : FrameAt = refused.0 in
       rw (refused.1, refused_asked p.languages space.image c interrupted f e refused.2) refl
-  turn_fails e (inr (inr caller)) =
+  visit_fails e (inr (inr caller)) =
       let wanted : FrameAction = caller.0 in let asks : Asks p.languages space c interrupted wanted = caller.1 in
       rw (asks.framed, asks.asked, caller.2, fails_next asks.frame e asks.framed caller.3) refl
 
@@ -261,9 +261,9 @@ module _ (languages : Languages) (space : SpaceValue) (c : Context) (interrupted
 module _ (p : Pass) (space : SpaceValue) where
   -- the last turn of a pass gives this
   abbrev pub Last : Result (Option Stop) DeliverError → Context → Bool → Type 0
-  Last (Ok None) c interrupted = turn_of p space c interrupted ≡ Ok Ends
-  Last (Ok (Some stop)) c interrupted = (stop.context ≡ c) × (stop.interrupted ≡ interrupted) × (turn_of p space c interrupted ≡ Ok (Stops stop.action stop.past))
-  Last (Err e) c interrupted = turn_of p space c interrupted ≡ Err e
+  Last (Ok None) c interrupted = visit_of p space c interrupted ≡ Ok Ends
+  Last (Ok (Some stop)) c interrupted = (stop.context ≡ c) × (stop.interrupted ≡ interrupted) × (visit_of p space c interrupted ≡ Ok (Stops stop.action stop.past))
+  Last (Err e) c interrupted = visit_of p space c interrupted ≡ Err e
 
   stop_same : (c : Context) (r : Result Line DeliverError) → stop_in (with_context c r) ≡ stop_in r
   stop_same c (Ok line) = refl
@@ -273,17 +273,17 @@ module _ (p : Pass) (space : SpaceValue) where
   pub pass_last : (room : ℕ) (c : Context) (interrupted : Bool) (r : Result (Option Stop) DeliverError) → stop_in (pass_of p space room c interrupted) ≡ r →
       ((r ≡ Err FrameLimit) × GoesOnFrom p space room c interrupted) ⊎ Meets p space (Last r) room c interrupted
   pass_last zero c interrupted r is = inl (sym is, tt)
-  pass_last (suc room) c interrupted r is = go (turn_of p space c interrupted) refl (λ d mark. pass_last room d mark r) is
+  pass_last (suc room) c interrupted r is = go (visit_of p space c interrupted) refl (λ d mark. pass_last room d mark r) is
     where
-      go : (t : Result Turn DeliverError) → turn_of p space c interrupted ≡ t →
+      go : (t : Result FrameVisit DeliverError) → visit_of p space c interrupted ≡ t →
           ((d : Context) (mark : Bool) → stop_in (pass_of p space room d mark) ≡ r → ((r ≡ Err FrameLimit) × GoesOnFrom p space room d mark) ⊎ Meets p space (Last r) room d mark) →
-          stop_in (line_turn c interrupted t (pass_of p space room)) ≡ r → ((r ≡ Err FrameLimit) × GoesOnFrom p space (suc room) c interrupted) ⊎ Meets p space (Last r) (suc room) c interrupted
+          stop_in (line_visit c interrupted t (pass_of p space room)) ≡ r → ((r ≡ Err FrameLimit) × GoesOnFrom p space (suc room) c interrupted) ⊎ Meets p space (Last r) (suc room) c interrupted
       go (Ok Ends) turns outer is = inr (inl (subst (λ x. Last x c interrupted) is turns))
       go (Ok (Stops wanted past)) turns outer is = inr (inl (subst (λ x. Last x c interrupted) is (refl, refl, turns)))
       go (Ok (Goes next)) turns outer is = on (outer next.context next.signal (sym (stop_same c (pass_of p space room next.context next.signal)) ∙ is))
         where
           to : GoesTo p space c interrupted next
-          to = turn_meets p space c interrupted (Ok (Goes next)) turns
+          to = visit_meets p space c interrupted (Ok (Goes next)) turns
 
           on : ((r ≡ Err FrameLimit) × GoesOnFrom p space room next.context next.signal) ⊎ Meets p space (Last r) room next.context next.signal →
               ((r ≡ Err FrameLimit) × GoesOnFrom p space (suc room) c interrupted) ⊎ Meets p space (Last r) (suc room) c interrupted
@@ -300,7 +300,7 @@ module _ (p : Pass) (space : SpaceValue) where
   last_pass (suc room) c interrupted r (inr later) =
       let next : Stepped = later.0 in
       let rest : stop_in (pass_of p space room next.context next.signal) ≡ r = last_pass room next.context next.signal r later.2 in
-      rw (turn_goes p space c interrupted next later.1) (stop_same c (pass_of p space room next.context next.signal) ∙ rest)
+      rw (visit_goes p space c interrupted next later.1) (stop_same c (pass_of p space room next.context next.signal) ∙ rest)
 
   -- a pass that goes on from each context meets its limit
   pub more_pass : (room : ℕ) (c : Context) (interrupted : Bool) → GoesOnFrom p space room c interrupted → stop_in (pass_of p space room c interrupted) ≡ Err FrameLimit
@@ -308,7 +308,7 @@ module _ (p : Pass) (space : SpaceValue) where
   more_pass (suc room) c interrupted more =
       let next : Stepped = more.0 in
       let rest : stop_in (pass_of p space room next.context next.signal) ≡ Err FrameLimit = more_pass room next.context next.signal more.2 in
-      rw (turn_goes p space c interrupted next more.1) (stop_same c (pass_of p space room next.context next.signal) ∙ rest)
+      rw (visit_goes p space c interrupted next more.1) (stop_same c (pass_of p space room next.context next.signal) ∙ rest)
 
   pub meets_too : (P Q : Context → Bool → Type 0) → ((c : Context) (interrupted : Bool) → P c interrupted → Q c interrupted) → (room : ℕ) (c : Context) (interrupted : Bool) → Meets p space P room c interrupted → Meets p space Q room c interrupted
   meets_too P Q each zero c interrupted meets = absurd meets
@@ -342,7 +342,7 @@ module _ (p : Pass) (space : SpaceValue) where
   meets_stop Q (suc room) c interrupted (inl now) =
       let wanted : FrameAction = now.0 in let asks : Asks p.languages space c interrupted wanted = now.1 in
       let past : Context = past_arguments c (arguments_of asks.frame) in
-      (record { context = c; interrupted = interrupted; action = wanted; past = past }, inl (refl, refl, turn_stops p space c interrupted wanted asks now.2), now.3)
+      (record { context = c; interrupted = interrupted; action = wanted; past = past }, inl (refl, refl, visit_stops p space c interrupted wanted asks now.2), now.3)
   meets_stop Q (suc room) c interrupted (inr later) =
       let next : Stepped = later.0 in
       let r = meets_stop Q room next.context next.signal later.2 in

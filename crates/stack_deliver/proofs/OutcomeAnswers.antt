@@ -4,24 +4,24 @@ use Rattle.std.proofs.lemmas.Bool.Decides.{nat_tests}
 use Rattle.std.specs.Prelude.{◌⊎◌}
 use Rattle.unwind_arch.specs.declared.x86_64.Context.{Context}
 use Rattle.stack_walks.specs.declared.room.Trail.{Trail}
-use Rattle.stack_deliver.specs.declared.answers.Ending.{Ending}
-use Rattle.stack_deliver.specs.declared.answers.Outcome.{Outcome}
-use Rattle.stack_deliver.specs.declared.answers.Outcome.TheVariants.{Installed, EndOfStack, FatalPhase1, FatalPhase2}
-use Rattle.stack_steps.specs.declared.answers.DeliverError.{DeliverError}
-use Rattle.stack_steps.specs.declared.answers.DeliverError.TheVariants.{FrameLimit, PassLimit}
+use Rattle.stack_deliver.specs.declared.outcome.Ending.{Ending}
+use Rattle.stack_deliver.specs.declared.outcome.Outcome.{Outcome}
+use Rattle.stack_deliver.specs.declared.outcome.Outcome.TheVariants.{Installed, EndOfStack, FatalPhase1, FatalPhase2}
+use Rattle.stack_steps.specs.declared.error.DeliverError.{DeliverError}
+use Rattle.stack_steps.specs.declared.error.DeliverError.TheVariants.{FrameLimit, PassLimit}
 use Rattle.stack_steps.specs.declared.asking.FrameAction.{FrameAction}
 use Rattle.stack_steps.specs.declared.asking.FrameAction.TheVariants.{Nothing, Cleanup, Handler, Terminate, TerminateAfterCleanups}
 use Rattle.stack_steps.specs.Languages.{Languages, is_taken, pad_of, selector_of}
-use Rattle.stack_walks.specs.declared.outward.Phase.{Phase}
-use Rattle.stack_walks.specs.declared.outward.Phase.TheVariants as phase
+use Rattle.stack_walks.specs.declared.unwind.Phase.{Phase}
+use Rattle.stack_walks.specs.declared.unwind.Phase.TheVariants as phase
 use Rattle.stack_steps.specs.Modules.{SpaceValue}
 use Rattle.stack_deliver.specs.Resumes.{return_of}
-use Rattle.stack_walks.specs.Turns.{stops, Line, Pass, Stop, Ends, Stops, cleaning, turn_of, pass_of, mark_at, enters, searching}
-use Rattle.stack_deliver.specs.Passes.{fatal, ending_at, PassEnd, Finishes, Elsewhere, end_at, end_by, end_of, cleanup_of, cleanup_at, resume_at, CleanupsRun, with_cleanup, cleanup_and_rest, after_pass, passes_of}
-use Rattle.stack_walks.proofs.TurnLines.{stop_in}
+use Rattle.stack_walks.specs.FrameVisits.{stops, Line, Pass, Stop, Ends, Stops, cleaning, visit_of, pass_of, mark_at, enters, searching}
+use Rattle.stack_deliver.specs.Passes.{fatal, ending_at, PassEnd, Finishes, Cleanup, end_at, end_by, end_of, cleanup_of, cleanup_at, resume_at, CleanupsRun, with_cleanup, cleanup_and_rest, after_pass, passes_of}
+use Rattle.stack_walks.proofs.VisitLines.{stop_in}
 use Rattle.stack_deliver.specs.Causes.{Asks, EndsProgram, EndsProgramLater, StackEnds, CantRead, Meets, GoesOnFrom, TakesAt, Fails}
 use Rattle.stack_deliver.specs.Causes.{SomePass}
-use Rattle.stack_deliver.proofs.MeetAnswers.{Last, turn_meets, turn_ends, turn_fails, ends_asks, asks_ends, ends_later_asks, asks_ends_later, pass_last, last_pass, meets_too, meets_either, StopsFor, meets_stop}
+use Rattle.stack_deliver.proofs.MeetAnswers.{Last, visit_meets, visit_ends, visit_fails, ends_asks, asks_ends, ends_later_asks, asks_ends_later, pass_last, last_pass, meets_too, meets_either, StopsFor, meets_stop}
 
 is_same : (m n : ℕ) → eqb m n ≡ true → m ≡ n
 is_same m n same = grind (arith, nat_tests)
@@ -58,20 +58,20 @@ module _ (p : Pass) (space : SpaceValue) (room : ℕ) (c : Context) where
 
   -- the end of the stack
   pub ended_meets : stop_of ≡ Ok None → Meets p space (StackEnds space) room c false
-  ended_meets is = meets_too p space (Last p space (Ok None)) (StackEnds space) (λ d mark last. turn_meets p space d mark (Ok Ends) last) room c false (last_of (Ok None) (λ e. cc) is)
+  ended_meets is = meets_too p space (Last p space (Ok None)) (StackEnds space) (λ d mark last. visit_meets p space d mark (Ok Ends) last) room c false (last_of (Ok None) (λ e. cc) is)
 
   pub meets_ended : Meets p space (StackEnds space) room c false → stop_of ≡ Ok None
-  meets_ended meets = last_pass p space room c false (Ok None) (meets_too p space (StackEnds space) (Last p space (Ok None)) (λ d mark ends. turn_ends p space d mark ends) room c false meets)
+  meets_ended meets = last_pass p space room c false (Ok None) (meets_too p space (StackEnds space) (Last p space (Ok None)) (λ d mark ends. visit_ends p space d mark ends) room c false meets)
 
   -- what can't be read
   pub failed_meets : (e : DeliverError) → e ≢ FrameLimit → stop_of ≡ Err e → Meets p space (CantRead p e space) room c false
-  failed_meets e other is = meets_too p space (Last p space (Err e)) (CantRead p e space) (λ d mark last. turn_meets p space d mark (Err e) last) room c false (last_of (Err e) (λ same. other (inner same)) is)
+  failed_meets e other is = meets_too p space (Last p space (Err e)) (CantRead p e space) (λ d mark last. visit_meets p space d mark (Err e) last) room c false (last_of (Err e) (λ same. other (inner same)) is)
     where
       inner : ◌≡◌ {A = Result (Option Stop) DeliverError} (Err e) (Err FrameLimit) → e ≡ FrameLimit
       inner same = cc
 
   pub meets_failed : (e : DeliverError) → Meets p space (CantRead p e space) room c false → stop_of ≡ Err e
-  meets_failed e meets = last_pass p space room c false (Err e) (meets_too p space (CantRead p e space) (Last p space (Err e)) (λ d mark fails. turn_fails p space d mark e fails) room c false meets)
+  meets_failed e meets = last_pass p space room c false (Err e) (meets_too p space (CantRead p e space) (Last p space (Err e)) (λ d mark fails. visit_fails p space d mark e fails) room c false meets)
 
   -- the limit
   pub limit_goes : stop_of ≡ Err FrameLimit → (Meets p space (CantRead p FrameLimit space) room c false → ⊥) → GoesOnFrom p space room c false
@@ -79,7 +79,7 @@ module _ (p : Pass) (space : SpaceValue) (room : ℕ) (c : Context) where
     where
       go : ((◌≡◌ {A = Result (Option Stop) DeliverError} (Err FrameLimit) (Err FrameLimit)) × GoesOnFrom p space room c false) ⊎ Meets p space (Last p space (Err FrameLimit)) room c false → GoesOnFrom p space room c false
       go (inl more) = more.1
-      go (inr meets) = absurd (never (meets_too p space (Last p space (Err FrameLimit)) (CantRead p FrameLimit space) (λ d mark last. turn_meets p space d mark (Err FrameLimit) last) room c false meets))
+      go (inr meets) = absurd (never (meets_too p space (Last p space (Err FrameLimit)) (CantRead p FrameLimit space) (λ d mark last. visit_meets p space d mark (Err FrameLimit) last) room c false meets))
 
   -- where it stops for an action that is so
   pub stopped_meets : (stop : Stop) (P : Context → Bool → Type 0) → stop_of ≡ Ok (Some stop) → (Asks p.languages space stop.context stop.interrupted stop.action → stops p.phase stop.action ≡ true → P stop.context stop.interrupted) → Meets p space P room c false
@@ -87,8 +87,8 @@ module _ (p : Pass) (space : SpaceValue) (room : ℕ) (c : Context) where
     where
       each : (d : Context) (mark : Bool) → Last p space (Ok (Some stop)) d mark → P d mark
       each d mark last =
-          let at : turn_of p space stop.context stop.interrupted ≡ Ok (Stops stop.action stop.past) = rw (last.0, last.1) last.2 in
-          let asks = turn_meets p space stop.context stop.interrupted (Ok (Stops stop.action stop.past)) at in
+          let at : visit_of p space stop.context stop.interrupted ≡ Ok (Stops stop.action stop.past) = rw (last.0, last.1) last.2 in
+          let asks = visit_meets p space stop.context stop.interrupted (Ok (Stops stop.action stop.past)) at in
           let here : P stop.context stop.interrupted = so asks.0 asks.1 in
           rw (last.0, last.1) at here
 
@@ -199,7 +199,7 @@ module _ (languages : Languages) (space : SpaceValue) (exception kept limit : �
       fails meets same = subst (λ (x : Ending). Finished x.outcome) same meets
 
       by_kept : (stop : Stop) (pad : ℕ) → cleanup_stop ≡ Ok (Some stop) → pad_of stop.action ≡ Some pad → (b : Bool) → eqb (mark_at stop.context stop.interrupted) kept ≡ b →
-          cond b (Finishes (ending_at (enters stop.past exception (selector_of stop.action) pad))) (Elsewhere pad (enters stop.past exception (selector_of stop.action) pad)) ≡ Finishes ending → Finished ending.outcome
+          cond b (Finishes (ending_at (enters stop.past exception (selector_of stop.action) pad))) (Cleanup pad (enters stop.past exception (selector_of stop.action) pad)) ≡ Finishes ending → Finished ending.outcome
       by_kept stop pad at named true same h =
           let landing : ending_at (enters stop.past exception (selector_of stop.action) pad) ≡ ending = cc in
           let mark : mark_at stop.context stop.interrupted ≡ kept = is_same (mark_at stop.context stop.interrupted) kept same in
@@ -230,7 +230,7 @@ module _ (languages : Languages) (space : SpaceValue) (exception kept limit : �
       finish : PassEnd → Result PassEnd DeliverError
       finish x = Ok x
 
-      taken : (stop : Stop) (pad : ℕ) (b : Bool) → b ≡ true → cond b (Finishes (ending_at (enters stop.past exception (selector_of stop.action) pad))) (Elsewhere pad (enters stop.past exception (selector_of stop.action) pad)) ≡ Finishes (ending_at (enters stop.past exception (selector_of stop.action) pad))
+      taken : (stop : Stop) (pad : ℕ) (b : Bool) → b ≡ true → cond b (Finishes (ending_at (enters stop.past exception (selector_of stop.action) pad))) (Cleanup pad (enters stop.past exception (selector_of stop.action) pad)) ≡ Finishes (ending_at (enters stop.past exception (selector_of stop.action) pad))
       taken stop pad true is = refl
       taken stop pad false is = absurd cc
   finishes FatalPhase2 meets = go (meets_either (cleaning languages) space (StackEnds space) (EndsEither languages space) limit c false meets)
@@ -281,7 +281,7 @@ module _ (languages : Languages) (space : SpaceValue) (exception kept : ℕ) (re
     where
       go : (r : Result PassEnd DeliverError) → cleanup_of languages space exception kept limit c ≡ r → after_pass r (λ pad entered. Err PassLimit) ≡ Ok passed → FinishesSo passed.ending zero c
       go (Ok (Finishes ending)) at h = let same : ending ≡ passed.ending = cc in at ∙ ap finish same
-      go (Ok (Elsewhere pad entered)) at h = absurd cc
+      go (Ok (Cleanup pad entered)) at h = absurd cc
       go (Err e) at h = absurd cc
   finished_in (suc n) c passed is = go (cleanup_of languages space exception kept limit c) refl (λ d rest h. finished_in n d rest h) is
     where
@@ -292,14 +292,14 @@ module _ (languages : Languages) (space : SpaceValue) (exception kept : ℕ) (re
       with_rest t d (Ok rest) at outer h = let same : rest.ending ≡ passed.ending = cc in subst (λ (x : Ending). SomePass languages space exception kept resumes limit (FinishesSo x) n d) same (outer d rest at)
       with_rest t d (Err e) at outer h = absurd cc
 
-      at_return : (pad : ℕ) (entered : Context) (o : Option ℕ) → cleanup_of languages space exception kept limit c ≡ Ok (Elsewhere pad entered) → return_of resumes pad ≡ o → Outer → cleanup_and_rest (cleanup_at pad entered) (resume_at pad entered o) (passes n) ≡ Ok passed →
+      at_return : (pad : ℕ) (entered : Context) (o : Option ℕ) → cleanup_of languages space exception kept limit c ≡ Ok (Cleanup pad entered) → return_of resumes pad ≡ o → Outer → cleanup_and_rest (cleanup_at pad entered) (resume_at pad entered o) (passes n) ≡ Ok passed →
           SomePass languages space exception kept resumes limit (FinishesSo passed.ending) (suc n) c
       at_return pad entered None at found outer h = absurd cc
       at_return pad entered (Some ret) at found outer h = inr (pad, entered, ret, at, found, with_rest (cleanup_at pad entered) (record entered { ra = ret }) (passes n (record entered { ra = ret })) refl outer h)
 
       go : (r : Result PassEnd DeliverError) → cleanup_of languages space exception kept limit c ≡ r → Outer → after_pass r (later n) ≡ Ok passed → SomePass languages space exception kept resumes limit (FinishesSo passed.ending) (suc n) c
       go (Ok (Finishes ending)) at outer h = let same : ending ≡ passed.ending = cc in inl (at ∙ ap finish same)
-      go (Ok (Elsewhere pad entered)) at outer h = at_return pad entered (return_of resumes pad) at refl outer h
+      go (Ok (Cleanup pad entered)) at outer h = at_return pad entered (return_of resumes pad) at refl outer h
       go (Err e) at outer h = absurd cc
 
   pub finish_all : (ending : Ending) (places : ℕ) (c : Context) → SomePass languages space exception kept resumes limit (FinishesSo ending) places c → (passed : CleanupsRun) × (passes places c ≡ Ok passed) × (passed.ending ≡ ending)

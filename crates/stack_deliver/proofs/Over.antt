@@ -1,12 +1,12 @@
 -- What is said of a delivery over the space's own image is so of the space.
 use Rattle.std.proofs.Common.{◌≡◌, ℕ, List, Result, subst}
 use Rattle.unwind_arch.specs.declared.x86_64.Context.{Context}
-use Rattle.stack_steps.specs.declared.answers.DeliverError.{DeliverError}
+use Rattle.stack_steps.specs.declared.error.DeliverError.{DeliverError}
 use Rattle.stack_steps.specs.Languages.{Languages}
 use Rattle.stack_steps.specs.Modules.{SpaceValue}
 use Rattle.stack_steps.specs.Ticking.{RisesWithin}
 use Rattle.stack_walks.specs.Walking.{RoomValue}
-use Rattle.stack_deliver.specs.declared.answers.Ending.{Ending}
+use Rattle.stack_deliver.specs.declared.outcome.Ending.{Ending}
 use Rattle.stack_deliver.specs.Delivering.{IsDelivered}
 use Rattle.stack_deliver.specs.Searches.{met_through}
 use Rattle.stack_deliver.specs.StackDelivery.{delivery_through}

@@ -2,13 +2,13 @@
 use Rattle.std.proofs.Common.{◌≡◌, ℕ, zero, suc, ◌<◌, List, [], ◌∷◌, ◌++◌, Result, Ok, Err, refl, sym, ap, ◌∙◌, append_assoc, append-nil, arith}
 use Rattle.unwind_arch.specs.declared.x86_64.Context.{Context}
 use Rattle.stack_walks.specs.declared.room.Trail.{Trail}
-use Rattle.stack_deliver.specs.declared.answers.Ending.{Ending}
-use Rattle.stack_steps.specs.declared.answers.DeliverError.{DeliverError}
-use Rattle.stack_steps.specs.declared.answers.DeliverError.TheVariants.{PassLimit}
+use Rattle.stack_deliver.specs.declared.outcome.Ending.{Ending}
+use Rattle.stack_steps.specs.declared.error.DeliverError.{DeliverError}
+use Rattle.stack_steps.specs.declared.error.DeliverError.TheVariants.{PassLimit}
 use Rattle.stack_steps.specs.Languages.{Languages}
 use Rattle.stack_steps.specs.Modules.{SpaceValue}
 use Rattle.stack_deliver.specs.Resumes.{return_of}
-use Rattle.stack_deliver.specs.Passes.{Finishes, Elsewhere, cleanup_of, cleanup_at, resume_at, CleanupsRun, with_cleanup, cleanup_and_rest, after_pass, passes_of}
+use Rattle.stack_deliver.specs.Passes.{Finishes, Cleanup, cleanup_of, cleanup_at, resume_at, CleanupsRun, with_cleanup, cleanup_and_rest, after_pass, passes_of}
 use Rattle.stack_deliver.specs.PassViews.{with_cleanups}
 
 -- ---- one pass of several
@@ -50,7 +50,7 @@ module _ (languages : Languages) (space : SpaceValue) (exception kept : ℕ) (re
   abbrev pub Resumes : ℕ → ℕ → Context → Result Context DeliverError → Type 0
   Resumes places pad entered r = (places ≡ 0 → r ≡ Err PassLimit) × (0 < places → r ≡ resume_at pad entered (return_of resumes pad))
 
-  pub passes_refused : (places pad : ℕ) (entered : Context) (r : Result Context DeliverError) (e : DeliverError) → with_cleanups front (passes places c) ≡ whole → cleanup_of languages space exception kept limit c ≡ Ok (Elsewhere pad entered) →
+  pub passes_refused : (places pad : ℕ) (entered : Context) (r : Result Context DeliverError) (e : DeliverError) → with_cleanups front (passes places c) ≡ whole → cleanup_of languages space exception kept limit c ≡ Ok (Cleanup pad entered) →
       Resumes places pad entered r → r ≡ Err e → whole ≡ Err e
   passes_refused zero pad entered r e is goes resumed_by fails =
       sym is ∙ ap (λ x. with_cleanups front (after_pass x none)) goes ∙ ap failed (sym (resumed_by.0 refl) ∙ fails)
@@ -61,7 +61,7 @@ module _ (languages : Languages) (space : SpaceValue) (exception kept : ℕ) (re
   passes_refused (suc n) pad entered r e is goes resumed_by fails =
       sym is ∙ ap (λ x. with_cleanups front (after_pass x (later n))) goes ∙ ap (λ x. with_cleanups front (cleanup_and_rest (cleanup_at pad entered) x (passes n))) (sym (resumed_by.1 (omega arith)) ∙ fails)
 
-  pub passes_go : (places pad : ℕ) (entered : Context) (r : Result Context DeliverError) (d : Context) → with_cleanups front (passes places c) ≡ whole → cleanup_of languages space exception kept limit c ≡ Ok (Elsewhere pad entered) →
+  pub passes_go : (places pad : ℕ) (entered : Context) (r : Result Context DeliverError) (d : Context) → with_cleanups front (passes places c) ≡ whole → cleanup_of languages space exception kept limit c ≡ Ok (Cleanup pad entered) →
       Resumes places pad entered r → r ≡ Ok d → (n : ℕ) × (places ≡ suc n) × (with_cleanups (front ++ cleanup_at pad entered ∷ []) (passes n d) ≡ whole)
   passes_go zero pad entered r d is goes resumed_by fine = let bad : Err PassLimit ≡ Ok d = sym (resumed_by.0 refl) ∙ fine in absurd cc
   passes_go (suc n) pad entered r d is goes resumed_by fine = (

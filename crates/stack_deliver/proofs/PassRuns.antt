@@ -3,14 +3,14 @@ use Rattle.std.proofs.Common.{◌≡◌, ℕ, zero, suc, ◌+◌, arith, true, f
 use Rattle.std.specs.Prelude.{◌==◌}
 use Rattle.unwind_definitions.specs.Delivery.{resume_of}
 use Rattle.unwind_arch.specs.declared.x86_64.Context.{Context}
-use Rattle.stack_steps.specs.declared.answers.DeliverError.{DeliverError}
-use Rattle.stack_steps.specs.declared.answers.DeliverError.TheVariants.{PassLimit}
+use Rattle.stack_steps.specs.declared.error.DeliverError.{DeliverError}
+use Rattle.stack_steps.specs.declared.error.DeliverError.TheVariants.{PassLimit}
 use Rattle.stack_steps.specs.Languages.{Languages}
 use Rattle.stack_steps.specs.Modules.{SpaceValue}
 use Rattle.stack_walks.specs.ContextsMet.{contexts_met}
-use Rattle.stack_walks.specs.Turns.{Line, cleaning, with_context, pass_of}
-use Rattle.stack_deliver.specs.declared.answers.Ending.{Ending}
-use Rattle.stack_deliver.specs.Passes.{Finishes, Elsewhere, end_of, cleanup_at, resume_at, CleanupsRun, with_cleanup, cleanup_and_rest, after_pass, passes_of}
+use Rattle.stack_walks.specs.FrameVisits.{Line, cleaning, with_context, pass_of}
+use Rattle.stack_deliver.specs.declared.outcome.Ending.{Ending}
+use Rattle.stack_deliver.specs.Passes.{Finishes, Cleanup, end_of, cleanup_at, resume_at, CleanupsRun, with_cleanup, cleanup_and_rest, after_pass, passes_of}
 use Rattle.stack_deliver.specs.Resumes.{return_of}
 use Rattle.stack_deliver.specs.Searches.{met_after, met_after_resume, met_in_passes}
 
@@ -47,7 +47,7 @@ module _ (languages : Languages) (space : SpaceValue) (exception kept : ℕ) (re
   finishes zero r ending e = ap (λ x. after_pass x (λ pad entered. Err PassLimit)) e
   finishes (suc n) r ending e = ap (λ x. after_pass x (λ pad entered. cleanup_and_rest (cleanup_at pad entered) (resume_at pad entered (return_of resumes pad)) (passes n))) e
 
-  pub cleans : (n pad ret : ℕ) (entered : Context) (r : Result Line DeliverError) → end_of exception kept r ≡ Ok (Elsewhere pad entered) → return_of resumes pad ≡ Some ret →
+  pub cleans : (n pad ret : ℕ) (entered : Context) (r : Result Line DeliverError) → end_of exception kept r ≡ Ok (Cleanup pad entered) → return_of resumes pad ≡ Some ret →
       from_pass (suc n) r ≡ with_cleanup (cleanup_at pad entered) (passes n (record entered { ra = ret }))
   cleans n pad ret entered r e found =
       ap (λ x. after_pass x (λ pad entered. cleanup_and_rest (cleanup_at pad entered) (resume_at pad entered (return_of resumes pad)) (passes n))) e
@@ -79,6 +79,6 @@ module _ (languages : Languages) (space : SpaceValue) (exception kept : ℕ) (re
   finishes_met zero met r ending e = refl
   finishes_met (suc n) met r ending e = rw e (omega arith)
 
-  pub cleans_met : (n met pad ret : ℕ) (entered : Context) (r : Result Line DeliverError) → end_of exception kept r ≡ Ok (Elsewhere pad entered) → return_of resumes pad ≡ Some ret →
+  pub cleans_met : (n met pad ret : ℕ) (entered : Context) (r : Result Line DeliverError) → end_of exception kept r ≡ Ok (Cleanup pad entered) → return_of resumes pad ≡ Some ret →
       met_from (suc n) met r ≡ met + met_in_passes languages space exception kept resumes limit n (record entered { ra = ret })
   cleans_met n met pad ret entered r e found = rw (e, found) refl

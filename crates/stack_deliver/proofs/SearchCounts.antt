@@ -2,17 +2,17 @@
 use Rattle.std.proofs.Common.{◌≡◌, ℕ, zero, suc, ◌+◌, ◌*◌, ◌<◌, ◌≤◌, Bool, true, false, List, Option, Some, None, Result, Ok, Err, refl, sym, ap, ◌∙◌, arith}
 use Rattle.std.proofs.Math.Nat.{add-mul}
 use Rattle.unwind_arch.specs.declared.x86_64.Context.{Context}
-use Rattle.stack_steps.specs.declared.answers.DeliverError.{DeliverError}
+use Rattle.stack_steps.specs.declared.error.DeliverError.{DeliverError}
 use Rattle.stack_steps.specs.Languages.{Languages, is_taken}
 use Rattle.stack_steps.specs.Modules.{SpaceValue}
 use Rattle.stack_deliver.specs.Resumes.{return_of}
-use Rattle.stack_walks.specs.Turns.{Line, Stop, cleaning, mark_at, pass_of, searching}
-use Rattle.stack_deliver.specs.Passes.{PassEnd, Finishes, Elsewhere, cleanup_of, resume_at}
+use Rattle.stack_walks.specs.FrameVisits.{Line, Stop, cleaning, mark_at, pass_of, searching}
+use Rattle.stack_deliver.specs.Passes.{PassEnd, Finishes, Cleanup, cleanup_of, resume_at}
 use Rattle.stack_steps.specs.Ticking.{RisesWithin}
 use Rattle.stack_walks.specs.ContextsMet.{contexts_met}
 use Rattle.stack_deliver.specs.Searches.{met_after, met_after_resume, met_in_passes, met_toward, met_after_stop, met_after_search, met_through}
 use Rattle.stack_steps.proofs.Counted.{rises_up_to, rises_then}
-use Rattle.stack_walks.proofs.TurnCounts.{few_met}
+use Rattle.stack_walks.proofs.VisitCounts.{few_met}
 
 -- ---- the passes
 module _ (languages : Languages) (space : SpaceValue) (exception kept : ℕ) (resumes : List (ℕ × ℕ)) (limit : ℕ) where
@@ -34,7 +34,7 @@ module _ (languages : Languages) (space : SpaceValue) (exception kept : ℕ) (re
       rises_up_to space (before + one_pass c) whole start new (omega arith) (rises_then space before (one_pass c) start middle new rises pass)
 
   -- one of several
-  pub next_met : (places n pad before whole : ℕ) (c entered d : Context) (r : Result Context DeliverError) → cleanup_of languages space exception kept limit c ≡ Ok (Elsewhere pad entered) → places ≡ suc n →
+  pub next_met : (places n pad before whole : ℕ) (c entered d : Context) (r : Result Context DeliverError) → cleanup_of languages space exception kept limit c ≡ Ok (Cleanup pad entered) → places ≡ suc n →
       (0 < places → r ≡ resume_at pad entered (return_of resumes pad)) → r ≡ Ok d → before + met places c ≡ whole → (before + one_pass c) + met n d ≡ whole
   next_met places n pad before whole c entered d r goes turns resumed fine is =
       let at : resume_at pad entered (return_of resumes pad) ≡ Ok d = sym (resumed (omega arith)) ∙ fine in
@@ -56,7 +56,7 @@ module _ (languages : Languages) (space : SpaceValue) (exception kept : ℕ) (re
 
       after : (r : Result PassEnd DeliverError) → ((d : Context) → met n d ≤ (n + 1) * limit) → met_after r (λ pad entered. met_after_resume (resume_at pad entered (return_of resumes pad)) (met n)) ≤ (n + 1) * limit
       after (Ok (Finishes ending)) few = omega arith
-      after (Ok (Elsewhere pad entered)) few = resumed (resume_at pad entered (return_of resumes pad)) few
+      after (Ok (Cleanup pad entered)) few = resumed (resume_at pad entered (return_of resumes pad)) few
       after (Err e) few = omega arith
 
 -- ---- a delivery

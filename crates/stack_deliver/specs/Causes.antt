@@ -6,17 +6,17 @@ use Rattle.unwinding_frames.specs.declared.cxx.runtime.CxxRuntime.TheVariants.{L
 use Rattle.unwinding_frames.specs.CxxTables.{cxx_table_action}
 use Rattle.unwinding_frames.specs.CxxTables as cxx
 use Rattle.unwind_arch.specs.declared.x86_64.Context.{Context}
-use Rattle.stack_deliver.specs.declared.answers.Outcome.{Outcome}
-use Rattle.stack_deliver.specs.declared.answers.Outcome.TheVariants.{Installed, EndOfStack, FatalPhase1, FatalPhase2}
-use Rattle.stack_steps.specs.declared.answers.DeliverError.{DeliverError}
-use Rattle.stack_steps.specs.declared.answers.DeliverError.TheVariants.{NoMemory, Unmapped, FrameLimit, PassLimit, NoResume, Table, MachO, CompactForm, PeInfo, ChainLimit}
+use Rattle.stack_deliver.specs.declared.outcome.Outcome.{Outcome}
+use Rattle.stack_deliver.specs.declared.outcome.Outcome.TheVariants.{Installed, EndOfStack, FatalPhase1, FatalPhase2}
+use Rattle.stack_steps.specs.declared.error.DeliverError.{DeliverError}
+use Rattle.stack_steps.specs.declared.error.DeliverError.TheVariants.{NoMemory, Unmapped, FrameLimit, PassLimit, NoResume, Table, MachO, CompactForm, PeInfo, ChainLimit}
 use Rattle.stack_steps.specs.Modules.{SpaceValue}
 use Rattle.stack_deliver.specs.Resumes.{return_of}
 use Rattle.stack_steps.specs.declared.asking.FrameAction.{FrameAction}
 use Rattle.stack_steps.specs.Asking.{named_table}
 use Rattle.stack_steps.specs.Languages.{Languages, frame_asks, is_cxx, is_taken, pad_of, routine_of, rust_alone}
-use Rattle.stack_walks.specs.Turns.{Line, Pass, Stop, cleaning, pass_of, mark_at, searching, stops}
-use Rattle.stack_deliver.specs.Passes.{Elsewhere, cleanup_of}
+use Rattle.stack_walks.specs.FrameVisits.{Line, Pass, Stop, cleaning, pass_of, mark_at, searching, stops}
+use Rattle.stack_deliver.specs.Passes.{Cleanup, cleanup_of}
 use Rattle.unwind_definitions.specs.Caller.{StepFault}
 use Rattle.unwind_definitions.specs.Function as rust
 use Rattle.unwind_definitions.specs.LanguageSearch.{LanguagePlace, address_of_call, table_action}
@@ -122,7 +122,7 @@ pub record TakenAt (languages : Languages) (space : SpaceValue) (limit : ℕ) (c
 module _ (languages : Languages) (space : SpaceValue) (exception kept : ℕ) (resumes : List (ℕ × ℕ)) (limit : ℕ) where
   -- a cleanup pass enters a landing pad elsewhere than at the kept frame
   abbrev pub Cleans : Context → ℕ → Context → Type 0
-  Cleans c pad entered = cleanup_of languages space exception kept limit c ≡ Ok (Elsewhere pad entered)
+  Cleans c pad entered = cleanup_of languages space exception kept limit c ≡ Ok (Cleanup pad entered)
 
   -- of the passes from a context on, where the trail has places for so many cleanups, one starts where this holds
   abbrev pub SomePass : (ℕ → Context → Type 0) → ℕ → Context → Type 0

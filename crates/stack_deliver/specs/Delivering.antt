@@ -6,8 +6,8 @@ use Rattle.unwind_definitions.specs.Chain.{Call}
 use Rattle.format_definitions.specs.Valid.{IsValid}
 use Rattle.unwind_arch.specs.declared.x86_64.Context.{Context}
 use Rattle.unwind_arch.specs.ContextViews.{columns_of}
-use Rattle.stack_deliver.specs.declared.answers.Ending.{Ending}
-use Rattle.stack_steps.specs.declared.answers.DeliverError.{DeliverError}
+use Rattle.stack_deliver.specs.declared.outcome.Ending.{Ending}
+use Rattle.stack_steps.specs.declared.error.DeliverError.{DeliverError}
 use Rattle.stack_steps.specs.Modules.{SpaceValue}
 use Rattle.stack_steps.specs.SpaceViews.{formats_of}
 use Rattle.stack_deliver.specs.StackDelivery.{DeliveryValue}

@@ -17,7 +17,7 @@ use Rattle.stack_steps.specs.declared.asking.FrameAction.TheVariants.{Nothing, C
 use Rattle.stack_steps.specs.Languages.{Languages, asked_by_rust, described_asks, found_in, is_taken}
 use Rattle.stack_steps.specs.Modules.{SpaceValue}
 use Rattle.stack_steps.specs.KnownStacks.{IsKnownLink, IsKnownStack}
-use Rattle.stack_walks.specs.Turns.{decides}
+use Rattle.stack_walks.specs.FrameVisits.{decides}
 use Rattle.stack_walks.specs.KnownWalks.{StartsKnownStack}
 use Rattle.stack_deliver.specs.StackDelivery.{DeliveryValue}
 use Rattle.stack_deliver.specs.StateViews.{delivery_shown}

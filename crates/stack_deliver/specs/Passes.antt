@@ -5,14 +5,14 @@ use Rattle.memory_image.specs.Results.{◌>>=◌, result_map}
 use Rattle.unwind_arch.specs.declared.x86_64.Context.{Context}
 use Rattle.unwind_definitions.specs.Columns.{rsp}
 use Rattle.stack_walks.specs.declared.room.Trail.{Trail}
-use Rattle.stack_deliver.specs.declared.answers.Ending.{Ending}
-use Rattle.stack_deliver.specs.declared.answers.Outcome.TheVariants.{Installed, FatalPhase2}
-use Rattle.stack_steps.specs.declared.answers.DeliverError.{DeliverError}
-use Rattle.stack_steps.specs.declared.answers.DeliverError.TheVariants.{PassLimit, NoResume}
+use Rattle.stack_deliver.specs.declared.outcome.Ending.{Ending}
+use Rattle.stack_deliver.specs.declared.outcome.Outcome.TheVariants.{Installed, FatalPhase2}
+use Rattle.stack_steps.specs.declared.error.DeliverError.{DeliverError}
+use Rattle.stack_steps.specs.declared.error.DeliverError.TheVariants.{PassLimit, NoResume}
 use Rattle.stack_steps.specs.Modules.{SpaceValue}
 use Rattle.stack_deliver.specs.Resumes.{return_of}
 use Rattle.stack_steps.specs.Languages.{Languages, pad_of, selector_of}
-use Rattle.stack_walks.specs.Turns.{Stop, Line, cleaning, pass_of, mark_at, enters}
+use Rattle.stack_walks.specs.FrameVisits.{Stop, Line, cleaning, pass_of, mark_at, enters}
 
 -- ---- the passes of a delivery
 
@@ -26,13 +26,13 @@ ending_at c = record { outcome = Installed; landing = Some c }
 -- how a cleanup pass ends: the delivery ends with it, or a landing pad is entered elsewhere than at the kept frame
 pub data PassEnd : Type 0 where
   Finishes : Ending → PassEnd
-  Elsewhere : ℕ → Context → PassEnd
+  Cleanup : ℕ → Context → PassEnd
 
 abbrev pub end_at : ℕ → ℕ → Stop → Option ℕ → PassEnd
 end_at exception kept stop None = Finishes fatal
 end_at exception kept stop (Some pad) =
     if mark_at stop.context stop.interrupted == kept then Finishes (ending_at (enters stop.past exception (selector_of stop.action) pad))
-    else Elsewhere pad (enters stop.past exception (selector_of stop.action) pad)
+    else Cleanup pad (enters stop.past exception (selector_of stop.action) pad)
 
 abbrev pub end_by : ℕ → ℕ → Option Stop → PassEnd
 end_by exception kept None = Finishes fatal
@@ -67,7 +67,7 @@ cleanup_and_rest t context later = context >>= (λ c. with_cleanup t (later c))
 
 abbrev pub after_pass : Result PassEnd DeliverError → (ℕ → Context → Result CleanupsRun DeliverError) → Result CleanupsRun DeliverError
 after_pass (Ok (Finishes ending)) later = Ok (record { trail = []; ending = ending })
-after_pass (Ok (Elsewhere pad c)) later = later pad c
+after_pass (Ok (Cleanup pad c)) later = later pad c
 after_pass (Err e) later = Err e
 
 module _ (languages : Languages) (space : SpaceValue) (exception kept : ℕ) (resumes : List (ℕ × ℕ)) (limit : ℕ) where

@@ -4,14 +4,14 @@ use Rattle.std.specs.Prelude.{◌≡◌, ℕ, zero, suc, ◌+◌, ◌^◌, ◌<�
 use Rattle.unwind_arch.specs.declared.x86_64.Context.{Context}
 use Rattle.fde_finders.specs.declared.custom.FrameInfoKind.TheVariants.{EhFrameHdr}
 use Rattle.fde_finders.specs.Named.{pairs_by}
-use Rattle.stack_steps.specs.declared.answers.DeliverError.{DeliverError}
+use Rattle.stack_steps.specs.declared.error.DeliverError.{DeliverError}
 use Rattle.stack_steps.specs.declared.space.Module.{Module}
 use Rattle.stack_steps.specs.declared.space.ModuleTables.TheVariants.{Elf}
 use Rattle.fde_finders.specs.declared.custom.FrameInfo.{FrameInfo}
 use Rattle.stack_steps.specs.Modules.{SpaceValue}
 use Rattle.stack_steps.specs.Languages.{Languages, is_taken, rust_alone}
-use Rattle.stack_walks.specs.Turns.{Line, Stop, cleaning, mark_at, pass_of, searching}
-use Rattle.stack_deliver.specs.Passes.{Elsewhere, Finishes, PassEnd, cleanup_of, resume_at}
+use Rattle.stack_walks.specs.FrameVisits.{Line, Stop, cleaning, mark_at, pass_of, searching}
+use Rattle.stack_deliver.specs.Passes.{Cleanup, Finishes, PassEnd, cleanup_of, resume_at}
 use Rattle.stack_deliver.specs.Resumes.{return_of}
 use Rattle.stack_walks.specs.ContextsMet.{contexts_met}
 
@@ -20,7 +20,7 @@ use Rattle.stack_walks.specs.ContextsMet.{contexts_met}
 -- after a pass that enters a landing pad elsewhere than at the kept frame
 abbrev pub met_after : Result PassEnd DeliverError → (ℕ → Context → ℕ) → ℕ
 met_after (Ok (Finishes ending)) later = 0
-met_after (Ok (Elsewhere pad entered)) later = later pad entered
+met_after (Ok (Cleanup pad entered)) later = later pad entered
 met_after (Err e) later = 0
 
 -- from where the next pass starts

@@ -3,12 +3,12 @@ use Rattle.std.specs.Prelude.{ℕ, Bool, true, false, List, [], Option, Some, No
 use Rattle.memory_image.specs.Results.{result_map}
 use Rattle.unwind_arch.specs.declared.x86_64.Context.{Context}
 use Rattle.stack_walks.specs.declared.room.Trail.{Trail}
-use Rattle.stack_deliver.specs.declared.answers.Outcome.{Outcome}
-use Rattle.stack_deliver.specs.declared.answers.Outcome.TheVariants.{EndOfStack, FatalPhase1}
-use Rattle.stack_steps.specs.declared.answers.DeliverError.{DeliverError}
+use Rattle.stack_deliver.specs.declared.outcome.Outcome.{Outcome}
+use Rattle.stack_deliver.specs.declared.outcome.Outcome.TheVariants.{EndOfStack, FatalPhase1}
+use Rattle.stack_steps.specs.declared.error.DeliverError.{DeliverError}
 use Rattle.stack_steps.specs.Modules.{SpaceValue}
 use Rattle.stack_steps.specs.Languages.{Languages, is_taken, rust_alone}
-use Rattle.stack_walks.specs.Turns.{Stop, Line, mark_at, pass_of, searching}
+use Rattle.stack_walks.specs.FrameVisits.{Stop, Line, mark_at, pass_of, searching}
 use Rattle.stack_deliver.specs.Passes.{CleanupsRun, passes_of}
 
 -- the states that the search visited, the cleanups that ran, how it ended, and the state at the handler

@@ -18,13 +18,13 @@ ghost use Rattle.stack_deliver.specs.KnownThrows.{AskingFrame, StartsKnownThrow}
 ghost use Rattle.stack_deliver.specs.KnownThrows.{ShowsKnownThrow};
 ghost use Rattle.stack_deliver.specs.KnownDeliveries.{StartsKnownDelivery, ShowsKnownDelivery};
 
-use crate::answers::{Delivery, Ending, Outcome};
+use crate::outcome::{Delivery, Ending, Outcome};
 use crate::passes::passes;
 use crate::resumes::Resumes;
 use eh_frame::RowRoom;
 use memory_image::{Ledger, NoLedger, Steps};
 use stack_steps::{DeliverError, GrownSpace, Languages, Space, Stepped, Stepper};
-use stack_walks::{Pass, Phase, Room, mark_of, outwards_over};
+use stack_walks::{Pass, Phase, Room, mark_of, unwind_frames_over};
 use std::alloc::Global;
 use unwind_arch::x86_64::{Context, RSP};
 
@@ -64,7 +64,7 @@ where
         phase: Phase::Search,
         languages: *languages,
     });
-    let searched = outwards_over(
+    let searched = unwind_frames_over(
         pass,
         &mut stepper,
         &mut state,

@@ -37,28 +37,28 @@
 //! `unwind_arch::x86_64` has a constant for each. Such a program has the line
 //! `NAME: memory_image unwind_arch stack_deliver anyhow` in `crates.txt`.
 //!
-//! A sampler prepares the space once (`Space::prepare`) and walks each stack by `walk_front_into`,
+//! A sampler prepares the space once (`Space::prepare`) and walks each stack by `walk_to_end_into`,
 //! into one `Room` and with `Steps::new(NoLedger)`, which counts nothing: that leaves the states up
 //! to a fault and says which it is. `docs/LIBRARY.md` has its lines.
 #![tactic(auto)]
 
-mod answers;
 mod delivery;
+mod outcome;
 mod passes;
 mod resumes;
 
-pub use answers::{Delivery, Ending, Outcome};
 pub use delivery::{deliver, deliver_into, deliver_over, throw, throw_into};
 pub use eh_frame::Error;
 pub use fde_finders::{FrameInfo, FrameInfoKind};
+pub use outcome::{Delivery, Ending, Outcome};
 pub use resumes::{Resumes, first_entry_counts};
 pub use stack_steps::{
     DeliverError, Languages, MachoTables, Module, ModuleTables, PeTables, Space, SpaceError,
     Stepped, step,
 };
 pub use stack_walks::{
-    Front, Room, RowRoom, Trail, Visited, each_reason_is_given, walk, walk_front_into, walk_into,
-    walk_with_rows,
+    EndReason, Room, RowRoom, Trail, Visited, each_reason_is_given, walk, walk_into,
+    walk_to_end_into, walk_with_rows,
 };
 pub use unwind_arch::x86_64::Context;
 pub use unwinding_frames::{CxxRuntime, Exception, ExceptionKind};

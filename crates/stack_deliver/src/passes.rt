@@ -4,24 +4,24 @@ ghost use Rattle.std.specs.Prelude.{◌≡◌, ◌≤◌, ◌<◌, ◌+◌, ◌*
 ghost use Rattle.std.specs.Prelude.{length, Some, OnOk};
 ghost use Rattle.stack_deliver.specs.Passes.{end_by, ending_at, cleanup_of};
 ghost use Rattle.stack_deliver.specs.Passes.{cleanup_at, resume_at, passes_of};
-ghost use Rattle.stack_walks.specs.TurnViews.{stop_shown};
+ghost use Rattle.stack_walks.specs.VisitViews.{stop_shown};
 ghost use Rattle.stack_deliver.specs.PassViews.{end_shown};
 ghost use Rattle.stack_deliver.specs.PassViews.{GivesCleanupsRun};
 ghost use Rattle.memory_image.specs.Results.{result_map};
 ghost use Rattle.stack_deliver.specs.Resumes.{return_of};
 ghost use Rattle.stack_steps.specs.Languages.{languages_of};
-ghost use Rattle.stack_walks.specs.Turns.{cleaning};
+ghost use Rattle.stack_walks.specs.FrameVisits.{cleaning};
 ghost use Rattle.stack_walks.specs.ContextsMet.{contexts_met};
 ghost use Rattle.stack_deliver.specs.Searches.{met_in_passes};
 ghost use Rattle.stack_steps.specs.Ticking.{RisesWithin};
 
-use crate::answers::{Ending, Outcome};
+use crate::outcome::{Ending, Outcome};
 use crate::resumes::Resumes;
 use eh_frame::RowRoom;
 use fde_finders::FDESearchResult;
 use memory_image::{Ledger, Steps};
 use stack_steps::{DeliverError, Languages, Stepped, Stepper};
-use stack_walks::{Pass, Phase, Room, Stop, Trail, mark_of, outwards_over};
+use stack_walks::{Pass, Phase, Room, Stop, Trail, mark_of, unwind_frames_over};
 use unwind_arch::x86_64::{Context, RSP};
 
 /// How a cleanup pass ends. Where a landing pad is entered, the pass leaves the registers with which
@@ -33,7 +33,7 @@ enum PassEnd {
     /// The handler of the kept frame is entered.
     Installed,
     /// The landing pad of a frame inside the handler's is entered.
-    Elsewhere(u64),
+    Cleanup(u64),
 }
 
 const FATAL: Ending = Ending {
@@ -65,7 +65,7 @@ fn pass_end(stop: Stop, state: &mut Stepped, exception: u64, kept: u64) -> PassE
     if is_kept {
         PassEnd::Installed
     } else {
-        PassEnd::Elsewhere(pad)
+        PassEnd::Cleanup(pad)
     }
 }
 
@@ -100,7 +100,7 @@ where
         phase: Phase::Cleanup,
         languages: *languages,
     };
-    match outwards_over(Some(pass), stepper, state, limit, room, place, rows, steps)? {
+    match unwind_frames_over(Some(pass), stepper, state, limit, room, place, rows, steps)? {
         None => Ok(PassEnd::Fatal),
         Some(stop) => Ok(pass_end(stop, state, exception, kept)),
     }
@@ -179,7 +179,7 @@ where
         match end {
             PassEnd::Fatal => return Ok(FATAL),
             PassEnd::Installed => return Ok(installed(state.context)),
-            PassEnd::Elsewhere(pad) => resume(pad, &mut state.context, resumes, limit, room)?,
+            PassEnd::Cleanup(pad) => resume(pad, &mut state.context, resumes, limit, room)?,
         }
     }
 }

@@ -6,7 +6,7 @@ use Rattle.std.specs.Ordering.{nat_cmp, is_lt, is_le}
 use Rattle.std.specs.BTreeMap.{insert_entry}
 use Rattle.memory_image.specs.Image.{lower}
 use Rattle.stack_steps.specs.declared.space.Module.{Module}
-use Rattle.stack_steps.specs.declared.space.Extent.{Extent}
+use Rattle.stack_steps.specs.declared.space.ModuleEntry.{ModuleEntry}
 use Rattle.stack_steps.specs.Modules.{contains, module_at, AreApart, shares, lowest_shared, with_module, module_of, modules_in}
 use Rattle.stack_steps.specs.Modules.{last_below, first_between}
 
@@ -199,7 +199,7 @@ with_apart (n ∷ ns) low m apart le some below none =
           rw test (le, some, (before, apart.1, apart.2))
     ]
 
-pub inserted : (es : List (ℕ × Extent)) (k : ℕ) (x : Extent) (low : ℕ) → AreApart low (modules_in es) → k < x.end → lowest_shared (modules_in es) k x.end ≡ None → modules_in (insert_entry nat_cmp es k x) ≡ with_module (module_of (k, x)) (modules_in es)
+pub inserted : (es : List (ℕ × ModuleEntry)) (k : ℕ) (x : ModuleEntry) (low : ℕ) → AreApart low (modules_in es) → k < x.end → lowest_shared (modules_in es) k x.end ≡ None → modules_in (insert_entry nat_cmp es k x) ≡ with_module (module_of (k, x)) (modules_in es)
 inserted [] k x low apart some none = refl
 inserted (e ∷ es) k x low apart some none =
     let s : ShareNone (module_of e) (modules_in es) k x.end = share_none (module_of e) (modules_in es) k x.end none in
@@ -217,7 +217,7 @@ inserted (e ∷ es) k x low apart some none =
 
 -- ---- what the ranges of a map give
 
-pub none_in : (p : ℕ → Bool) (a : ℕ) → ((q : ℕ) → p q ≡ leb q a) → (es : List (ℕ × Extent)) → filter (λ d. p d.0) es ≡ [] → last_below (modules_in es) a ≡ None
+pub none_in : (p : ℕ → Bool) (a : ℕ) → ((q : ℕ) → p q ≡ leb q a) → (es : List (ℕ × ModuleEntry)) → filter (λ d. p d.0) es ≡ [] → last_below (modules_in es) a ≡ None
 none_in p a tests [] h = refl
 none_in p a tests (d ∷ es) h = go (p d.0) refl (none_in p a tests es)
   where
@@ -229,12 +229,12 @@ none_in p a tests (d ∷ es) h = go (p d.0) refl (none_in p a tests es)
         rw (more rest, test) refl
 
 -- the last of the entries at or below an address
-pub last_in : (p : ℕ → Bool) (a : ℕ) → ((q : ℕ) → p q ≡ leb q a) → (es t : List (ℕ × Extent)) (e : ℕ × Extent) → filter (λ d. p d.0) es ≡ t ++ e ∷ [] → last_below (modules_in es) a ≡ Some (module_of e)
+pub last_in : (p : ℕ → Bool) (a : ℕ) → ((q : ℕ) → p q ≡ leb q a) → (es t : List (ℕ × ModuleEntry)) (e : ℕ × ModuleEntry) → filter (λ d. p d.0) es ≡ t ++ e ∷ [] → last_below (modules_in es) a ≡ Some (module_of e)
 last_in p a tests [] [] e h = absurd (cc)
 last_in p a tests [] (d ∷ t) e h = absurd (cc)
 last_in p a tests (d ∷ es) t e h = go t (p d.0) refl (λ s. last_in p a tests es s e) (none_in p a tests es) h
   where
-    go : (t : List (ℕ × Extent)) (b : Bool) → p d.0 ≡ b → ((s : List (ℕ × Extent)) → filter (λ d. p d.0) es ≡ s ++ e ∷ [] → last_below (modules_in es) a ≡ Some (module_of e)) → (filter (λ d. p d.0) es ≡ [] → last_below (modules_in es) a ≡ None)
+    go : (t : List (ℕ × ModuleEntry)) (b : Bool) → p d.0 ≡ b → ((s : List (ℕ × ModuleEntry)) → filter (λ d. p d.0) es ≡ s ++ e ∷ [] → last_below (modules_in es) a ≡ Some (module_of e)) → (filter (λ d. p d.0) es ≡ [] → last_below (modules_in es) a ≡ None)
         → filter (λ d. p d.0) (d ∷ es) ≡ t ++ e ∷ [] → last_below (modules_in (d ∷ es)) a ≡ Some (module_of e)
     go t false is more none h = let rest : filter (λ d. p d.0) es ≡ t ++ e ∷ [] = rw is at h in rw (more t rest) refl
     go [] true is more none h =
@@ -249,7 +249,7 @@ last_in p a tests (d ∷ es) t e h = go t (p d.0) refl (λ s. last_in p a tests 
         rw (more t rest) refl
 
 -- the first of the entries from start to before end
-pub first_in : (p : ℕ → Bool) (start end : ℕ) → ((q : ℕ) → p q ≡ (leb start q && ltb q end)) → (es t : List (ℕ × Extent)) (e : ℕ × Extent) → filter (λ d. p d.0) es ≡ e ∷ t → first_between (modules_in es) start end ≡ Some e.0
+pub first_in : (p : ℕ → Bool) (start end : ℕ) → ((q : ℕ) → p q ≡ (leb start q && ltb q end)) → (es t : List (ℕ × ModuleEntry)) (e : ℕ × ModuleEntry) → filter (λ d. p d.0) es ≡ e ∷ t → first_between (modules_in es) start end ≡ Some e.0
 first_in p start end tests [] t e h = absurd (cc)
 first_in p start end tests (d ∷ es) t e h = go (p d.0) refl (first_in p start end tests es t e)
   where
@@ -258,13 +258,13 @@ first_in p start end tests (d ∷ es) t e h = go (p d.0) refl (first_in p start 
         let both : d ∷ filter (λ d. p d.0) es ≡ e ∷ t = rw is at h in
         let same : d ≡ e = cc in
         let test : (leb start d.0 && ltb d.0 end) ≡ true = sym (tests d.0) ∙ is in
-        rw test (ap (λ (x : ℕ × Extent). Some x.0) same)
+        rw test (ap (λ (x : ℕ × ModuleEntry). Some x.0) same)
     go false is more =
         let rest : filter (λ d. p d.0) es ≡ e ∷ t = rw is at h in
         let test : (leb start d.0 && ltb d.0 end) ≡ false = sym (tests d.0) ∙ is in
         rw test (more rest)
 
-pub no_first : (p : ℕ → Bool) (start end : ℕ) → ((q : ℕ) → p q ≡ (leb start q && ltb q end)) → (es : List (ℕ × Extent)) → filter (λ d. p d.0) es ≡ [] → first_between (modules_in es) start end ≡ None
+pub no_first : (p : ℕ → Bool) (start end : ℕ) → ((q : ℕ) → p q ≡ (leb start q && ltb q end)) → (es : List (ℕ × ModuleEntry)) → filter (λ d. p d.0) es ≡ [] → first_between (modules_in es) start end ≡ None
 no_first p start end tests [] h = refl
 no_first p start end tests (d ∷ es) h = go (p d.0) refl (no_first p start end tests es)
   where
@@ -285,11 +285,11 @@ between_test start end q = grind (arith, nat_tests)
 -- ---- a map of modules with one more
 
 -- the new entry goes to its place in the order
-pub record TakesModule (es ds : List (ℕ × Extent)) (m : Module) : Type 0 where
+pub record TakesModule (es ds : List (ℕ × ModuleEntry)) (m : Module) : Type 0 where
   pub apart : AreApart 0 (modules_in ds)
   pub added : modules_in ds ≡ with_module m (modules_in es)
 
-pub module_inserted : (es ds : List (ℕ × Extent)) (k : ℕ) (x : Extent) (o : Option ℕ) → AreApart 0 (modules_in es) → k < x.end → x.end < 2 ^ 64 → o ≡ lowest_shared (modules_in es) k x.end → o ≡ None → ds ≡ insert_entry nat_cmp es k x → TakesModule es ds (module_of (k, x))
+pub module_inserted : (es ds : List (ℕ × ModuleEntry)) (k : ℕ) (x : ModuleEntry) (o : Option ℕ) → AreApart 0 (modules_in es) → k < x.end → x.end < 2 ^ 64 → o ≡ lowest_shared (modules_in es) k x.end → o ≡ None → ds ≡ insert_entry nat_cmp es k x → TakesModule es ds (module_of (k, x))
 module_inserted es ds k x o apart some below is none e =
     let alone : lowest_shared (modules_in es) k x.end ≡ None = sym is ∙ none in
     let same : modules_in ds ≡ with_module (module_of (k, x)) (modules_in es) = ap modules_in e ∙ inserted es k x 0 apart some alone in

@@ -20,8 +20,8 @@ use Rattle.fde_finders.specs.declared.custom.FrameInfoKind.TheVariants.{EhFrame,
 use Rattle.fde_finders.specs.Finding.{FoundFde, table_bases, found_in}
 use Rattle.fde_finders.specs.Named.{found_by_kind, found_by}
 use Rattle.format_frames.specs.declared.machine.Stepped.{Stepped}
-use Rattle.stack_steps.specs.declared.answers.DeliverError.{DeliverError}
-use Rattle.stack_steps.specs.declared.answers.DeliverError.TheVariants.{Unmapped, Table}
+use Rattle.stack_steps.specs.declared.error.DeliverError.{DeliverError}
+use Rattle.stack_steps.specs.declared.error.DeliverError.TheVariants.{Unmapped, Table}
 use Rattle.stack_steps.specs.Frames.{FrameAt, DescribedFrame, Described, next_with, refusal_of}
 use Rattle.stack_steps.specs.Elf.{frame, frame_with, frame_by, caller, FindsNone, Ends, RowFaults, Faults, Reads, Gives}
 use Rattle.stack_steps.specs.Stepping.{caller_by}

@@ -31,7 +31,7 @@ use Rattle.unwind_definitions.specs.Expressions.{evaluation}
 use Rattle.fde_finders.specs.Finding.{FoundFde, table_bases, scanned_in}
 use Rattle.fde_finders.specs.Named.{found_by_kind}
 use Rattle.fde_finders.specs.declared.custom.FrameInfo.{FrameInfo}
-use Rattle.stack_steps.specs.declared.answers.DeliverError.{DeliverError}
+use Rattle.stack_steps.specs.declared.error.DeliverError.{DeliverError}
 use Rattle.stack_steps.specs.declared.space.Module.{Module}
 use Rattle.stack_steps.specs.declared.space.ModuleTables.TheVariants.{Elf}
 use Rattle.format_frames.specs.declared.machine.Stepped.{Stepped}

@@ -32,7 +32,7 @@ use Rattle.fde_finders.specs.declared.custom.FrameInfoKind.TheVariants.{EhFrame,
 use Rattle.fde_finders.specs.Finding.{FoundFde, table_bases, scanned_in}
 use Rattle.fde_finders.specs.Named.{found_by_kind}
 use Rattle.fde_finders.specs.declared.custom.FrameInfo.{FrameInfo}
-use Rattle.stack_steps.specs.declared.answers.DeliverError.{DeliverError}
+use Rattle.stack_steps.specs.declared.error.DeliverError.{DeliverError}
 use Rattle.stack_steps.specs.declared.space.Module.{Module}
 use Rattle.stack_steps.specs.declared.space.ModuleTables.TheVariants.{Elf}
 use Rattle.format_frames.specs.declared.machine.Stepped.{Stepped}
@@ -109,10 +109,10 @@ asked_at false s some low = let other : s.ra ≢ 0 = some in omega arith
 
 -- the context that holds columns shows what they show
 held_shows : (columns : Columns) (t : State) → Shows columns t → Shows (columns_of (context_of columns)) t
-held_shows columns t shows = record { ra = rw shows.ra refl; sp = rw shows.sp refl; saved = λ r. by_register Held (rw (shows.saved RBX) refl) (rw (shows.saved RBP) refl) (rw (shows.saved R12) refl) (rw (shows.saved R13) refl) (rw (shows.saved R14) refl) (rw (shows.saved R15) refl) r }
+held_shows columns t shows = record { ra = rw shows.ra refl; sp = rw shows.sp refl; saved = λ r. by_register AddedModule (rw (shows.saved RBX) refl) (rw (shows.saved RBP) refl) (rw (shows.saved R12) refl) (rw (shows.saved R13) refl) (rw (shows.saved R14) refl) (rw (shows.saved R15) refl) r }
   where
-    Held : CalleeSaved → Type 0
-    Held r = columns_of (context_of columns) (column_of r) ≡ Some (value_of r t)
+    AddedModule : CalleeSaved → Type 0
+    AddedModule r = columns_of (context_of columns) (column_of r) ≡ Some (value_of r t)
 
 module _ (space : SpaceValue) (c : Context) (interrupted : Bool) (s t : State) (apart : AreApart 0 space.modules) (laid : IsLaidOut 0 space.image)
     (some : s.ra ≢ 0) (asked : address_of_call s.ra interrupted ≡ address_asked interrupted s) (shows : Shows (columns_of c) s) where

@@ -21,11 +21,11 @@ use Rattle.fde_finders.specs.FrameTables.{FrameTable, led_table, table_by_kind}
 use Rattle.fde_finders.specs.HeaderFinding.{Led, at_header, led_address, led_at, led_by, led_to}
 use Rattle.unwind_definitions.specs.Header.{table_in}
 use Rattle.stack_steps.specs.declared.prepared.PreparedTable.{PreparedTable}
-use Rattle.stack_steps.specs.declared.space.Held.{Held}
+use Rattle.stack_steps.specs.declared.space.AddedModule.{AddedModule}
 use Rattle.stack_steps.specs.declared.space.ModuleTables.{ModuleTables}
 use Rattle.stack_steps.specs.declared.space.ModuleTables.TheVariants.{Elf, Macho, Pe}
 use Rattle.stack_steps.specs.Growing.{Grows}
-use Rattle.stack_steps.specs.Held.{IsHeld, IsTable, IsTableOf, kept_table}
+use Rattle.stack_steps.specs.AddedModule.{IsAddedModule, IsTable, IsTableOf, kept_table}
 
 -- ---- a table that is prepared has bytes
 
@@ -141,10 +141,10 @@ module _ (old new : List Span) (grows : Grows old new) where
   index_stays (Pe tables) (Some t) is = absurd is
 
   -- a module of a space, with its table
-  pub held_stays : (h : Held) → IsHeld old h → IsHeld new h
+  pub held_stays : (h : AddedModule) → IsAddedModule old h → IsAddedModule new h
   held_stays h is = record { is_table = index_stays h.holder.tables h.table is.is_table; placed = is.placed }
 
   -- the same of one that is found
-  pub found_stays : (o : Option (Bor Held)) → IfSome o (λ held. IsHeld old held.now) → IfSome o (λ held. IsHeld new held.now)
+  pub found_stays : (o : Option (Bor AddedModule)) → IfSome o (λ added_module. IsAddedModule old added_module.now) → IfSome o (λ added_module. IsAddedModule new added_module.now)
   found_stays None is = tt
-  found_stays (Some held) is = held_stays held.now is
+  found_stays (Some added_module) is = held_stays added_module.now is

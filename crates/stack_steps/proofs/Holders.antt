@@ -103,8 +103,8 @@ ends_low low (n ∷ ns) m apart has = go (λ more. ends_low n.end ns m apart.2 m
     go later (inr more) = later more
 
 -- an address that a module has, whatever its format, is found in that module, and the one after it is an address, too
-pub held_at : (modules : List Module) (home : FormatModule) (a : ℕ) → AreApart 0 modules → Contains (map format_of modules) home → IsTrue (in_format a home) → HoldsAt modules home a
-held_at modules home a apart known inside =
+pub added_at : (modules : List Module) (home : FormatModule) (a : ℕ) → AreApart 0 modules → Contains (map format_of modules) home → IsTrue (in_format a home) → HoldsAt modules home a
+added_at modules home a apart known inside =
     let is : IsFormatOf modules home = format_named modules home known in
     let m : Module = is.named in
     let within : IsTrue (in_format a (format_of m)) = subst (λ (k : FormatModule). IsTrue (in_format a k)) (sym is.same) inside in

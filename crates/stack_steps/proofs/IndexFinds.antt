@@ -37,9 +37,9 @@ use Rattle.std.specs.Result.{result_map_both}
 use Rattle.unwind_definitions.specs.Row.{RowInstructions, row_at}
 use Rattle.encoded_pointers.specs.PointerViews.{bases_of}
 use Rattle.eh_frame.specs.EntryViews.{table_of}
-use Rattle.stack_steps.specs.declared.answers.DeliverError.TheVariants.{Table}
+use Rattle.stack_steps.specs.declared.error.DeliverError.TheVariants.{Table}
 use Rattle.stack_steps.specs.declared.prepared.PreparedTable.{PreparedTable}
-use Rattle.stack_steps.specs.Held.{IsTableOf, kept_table}
+use Rattle.stack_steps.specs.AddedModule.{IsTableOf, kept_table}
 use Rattle.stack_steps.specs.Preparing.{HeaderLists, Lists, fdes_in}
 use Rattle.stack_steps.specs.Elf.{frame_by, frame_with}
 

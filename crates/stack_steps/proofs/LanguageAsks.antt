@@ -7,7 +7,7 @@ use Rattle.unwind_definitions.specs.Function.{Action, NoAction}
 use Rattle.unwind_definitions.specs.LanguageSearch.{LanguagePlace, address_of_call, language_action, personality_address}
 use Rattle.unwind_arch.specs.declared.x86_64.Context.{Context}
 use Rattle.fde_finders.specs.Finding.{FoundFde}
-use Rattle.stack_steps.specs.declared.answers.DeliverError.{DeliverError}
+use Rattle.stack_steps.specs.declared.error.DeliverError.{DeliverError}
 use Rattle.stack_steps.specs.declared.asking.FrameAction.{FrameAction}
 use Rattle.stack_steps.specs.Asking.{action_asked, action_if_named, named_table}
 use Rattle.stack_steps.specs.Elf.{table_if_named}

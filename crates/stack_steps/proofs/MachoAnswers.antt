@@ -26,8 +26,8 @@ use Rattle.format_definitions.specs.CompactStep as compact
 use Rattle.format_frames.specs.FrameData.{found_in as found_in_data, some_found, description_by, description_of}
 use Rattle.format_frames.specs.Refusals.{function_at, looked_up}
 use Rattle.format_frames.specs.declared.machine.Stepped.{Stepped}
-use Rattle.stack_steps.specs.declared.answers.DeliverError.{DeliverError}
-use Rattle.stack_steps.specs.declared.answers.DeliverError.TheVariants.{Unmapped, Table, MachO, CompactForm}
+use Rattle.stack_steps.specs.declared.error.DeliverError.{DeliverError}
+use Rattle.stack_steps.specs.declared.error.DeliverError.TheVariants.{Unmapped, Table, MachO, CompactForm}
 use Rattle.stack_steps.specs.declared.space.MachoTables.{MachoTables}
 use Rattle.stack_steps.specs.declared.space.Module.{Module}
 use Rattle.stack_steps.specs.Frames.{next_with, refusal_of}

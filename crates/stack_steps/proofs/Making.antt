@@ -11,12 +11,12 @@ use Rattle.memory_image.specs.Image.{Span}
 use Rattle.eh_frame.specs.Index.{Index}
 use Rattle.stack_steps.specs.declared.prepared.Left.{Left}
 use Rattle.stack_steps.specs.declared.prepared.PreparedTable.{PreparedTable}
-use Rattle.stack_steps.specs.declared.space.Extent.{Extent}
-use Rattle.stack_steps.specs.declared.space.Held.{Held}
+use Rattle.stack_steps.specs.declared.space.ModuleEntry.{ModuleEntry}
+use Rattle.stack_steps.specs.declared.space.AddedModule.{AddedModule}
 use Rattle.stack_steps.specs.declared.space.ModuleTables.{ModuleTables}
 use Rattle.stack_steps.specs.declared.space.ModuleTables.TheVariants.{Elf, Macho, Pe}
 use Rattle.stack_steps.specs.Modules.{Added, AreApart, IsPlaced, lowest_shared, module_of, modules_in}
-use Rattle.stack_steps.specs.Held.{added_of, holder_of, index_in, kept_table, IsHeld, IsTable, IsTableIn, IsSpace, StandsAt, AreMade, MakesTable, Leaves, with_table, with_tables}
+use Rattle.stack_steps.specs.AddedModule.{added_of, holder_of, index_in, kept_table, IsAddedModule, IsTable, IsTableIn, IsSpace, StandsAt, AreMade, MakesTable, Leaves, with_table, with_tables}
 use Rattle.stack_steps.specs.Preparing.{Make, BecomesBy, IsIndexIn, index_of, rows_of, rules_of, rows_left, rules_left, with_indexes}
 use Rattle.stack_steps.proofs.Holding.{all_pushed, stand_pushed}
 
@@ -44,7 +44,7 @@ made_rules o = rules_of (index_made o)
 module _ (image : List Span) where
   -- ---- one more
 
-  pub made_push : (left after next : Left) (hs : List Held) (made : List (Option PreparedTable)) (h : Held) (o : Option PreparedTable) → AreMade image left hs made after → MakesTable image after h o → Leaves after o next → AreMade image left (hs ++ h ∷ []) (made ++ o ∷ []) next
+  pub made_push : (left after next : Left) (hs : List AddedModule) (made : List (Option PreparedTable)) (h : AddedModule) (o : Option PreparedTable) → AreMade image left hs made after → MakesTable image after h o → Leaves after o next → AreMade image left (hs ++ h ∷ []) (made ++ o ∷ []) next
   made_push left after next [] [] h o are makes leaves =
       let makes' : MakesTable image left h o = subst (λ (l : Left). MakesTable image l h o) are makes in
       let leaves' : Leaves left o next = subst (λ (l : Left). Leaves l o next) are leaves in
@@ -55,14 +55,14 @@ module _ (image : List Span) where
 
   -- ---- how many, and what is left
 
-  pub made_length : (left after : Left) (hs : List Held) (made : List (Option PreparedTable)) → AreMade image left hs made after → length made ≡ length hs
+  pub made_length : (left after : Left) (hs : List AddedModule) (made : List (Option PreparedTable)) → AreMade image left hs made after → length made ≡ length hs
   made_length left after [] [] are = refl
   made_length left after [] (o ∷ made) are = absurd are
   made_length left after (h ∷ hs) [] are = absurd are
   made_length left after (h ∷ hs) (o ∷ made) are = let ih = made_length are.0 after hs made are.3 in omega arith
 
   -- each keeps a row of those that are left
-  pub made_few : (left after : Left) (hs : List Held) (made : List (Option PreparedTable)) → AreMade image left hs made after → count_by is_some made ≤ left.rows
+  pub made_few : (left after : Left) (hs : List AddedModule) (made : List (Option PreparedTable)) → AreMade image left hs made after → count_by is_some made ≤ left.rows
   made_few left after [] [] are = omega arith
   made_few left after [] (o ∷ made) are = absurd are
   made_few left after (h ∷ hs) [] are = absurd are
@@ -81,7 +81,7 @@ module _ (image : List Span) where
 
   -- ---- in the words of the definitions
 
-  unprepared : (h : Held) → h.table ≡ None → (added_of h).index ≡ None
+  unprepared : (h : AddedModule) → h.table ≡ None → (added_of h).index ≡ None
   unprepared h none = ap index_made none
 
   -- only an ELF module has an index
@@ -90,7 +90,7 @@ module _ (image : List Span) where
   table_index (Macho tables) t is = absurd is
   table_index (Pe tables) t is = absurd is
 
-  pub one_becomes : (left : Left) (h : Held) (o : Option PreparedTable) (next : Left) → MakesTable image left h o → Leaves left o next → BecomesBy image left.rows left.rules (added_of h) (index_made o)
+  pub one_becomes : (left : Left) (h : AddedModule) (o : Option PreparedTable) (next : Left) → MakesTable image left h o → Leaves left o next → BecomesBy image left.rows left.rules (added_of h) (index_made o)
   one_becomes left h None next makes leaves = makes
   one_becomes left h (Some t) next makes leaves = record {
     unprepared = unprepared h makes.0;
@@ -109,7 +109,7 @@ module _ (image : List Span) where
   rules_after left None next leaves = let same = ap (λ (l : Left). l.rules) leaves in omega arith
   rules_after left (Some t) next leaves = leaves.rules
 
-  pub made_make : (left after : Left) (hs : List Held) (made : List (Option PreparedTable)) → AreMade image left hs made after → Make image left.rows left.rules (map added_of hs) (map index_made made) after.rows after.rules
+  pub made_make : (left after : Left) (hs : List AddedModule) (made : List (Option PreparedTable)) → AreMade image left hs made after → Make image left.rows left.rules (map added_of hs) (map index_made made) after.rows after.rules
   made_make left after [] [] are = (ap (λ (l : Left). l.rows) are, ap (λ (l : Left). l.rules) are)
   made_make left after [] (o ∷ made) are = absurd are
   made_make left after (h ∷ hs) [] are = absurd are
@@ -124,16 +124,16 @@ module _ (image : List Span) where
 
   -- ---- the modules with their tables
 
-  pub tables_held : (left after : Left) (hs : List Held) (made : List (Option PreparedTable)) → AreMade image left hs made after → AllByRecursion (IsHeld image) hs → AllByRecursion (IsHeld image) (with_tables hs made)
+  pub tables_held : (left after : Left) (hs : List AddedModule) (made : List (Option PreparedTable)) → AreMade image left hs made after → AllByRecursion (IsAddedModule image) hs → AllByRecursion (IsAddedModule image) (with_tables hs made)
   tables_held left after [] made are all = tt
   tables_held left after (h ∷ hs) [] are all = absurd are
   tables_held left after (h ∷ hs) (o ∷ made) are all = (one o are.1, tables_held are.0 after hs made are.3 all.1)
     where
-      one : (o : Option PreparedTable) → MakesTable image left h o → IsHeld image (with_table h o)
+      one : (o : Option PreparedTable) → MakesTable image left h o → IsAddedModule image (with_table h o)
       one None makes = all.0
       one (Some t) makes = record { is_table = makes.1.is_table; placed = all.0.placed }
 
-  sum_made : (left after : Left) (hs : List Held) (made : List (Option PreparedTable)) → AreMade image left hs made after →
+  sum_made : (left after : Left) (hs : List AddedModule) (made : List (Option PreparedTable)) → AreMade image left hs made after →
       (sum_by rows_kept (map added_of (with_tables hs made)) ≡ sum_by rows_kept (map added_of hs) + sum_by made_rows made) × (after.rows ≡ left.rows - sum_by made_rows made)
       × (sum_by rules_kept (map added_of (with_tables hs made)) ≡ sum_by rules_kept (map added_of hs) + sum_by made_rules made) × (after.rules ≡ left.rules - sum_by made_rules made)
   sum_made left after [] [] are = let a = ap (λ (l : Left). l.rows) are in let b = ap (λ (l : Left). l.rules) are in (refl, omega arith, refl, omega arith)
@@ -162,20 +162,20 @@ module _ (image : List Span) where
           let b : rules_kept (added_of h) ≡ 0 = ap rules_of none in
           (omega arith, omega arith)
 
-  pub left_made : (left after : Left) (hs : List Held) (made : List (Option PreparedTable)) → AreMade image left hs made after → left.rows ≡ rows_left (map added_of hs) → left.rules ≡ rules_left (map added_of hs) →
+  pub left_made : (left after : Left) (hs : List AddedModule) (made : List (Option PreparedTable)) → AreMade image left hs made after → left.rows ≡ rows_left (map added_of hs) → left.rules ≡ rules_left (map added_of hs) →
       (after.rows ≡ rows_left (map added_of (with_tables hs made))) × (after.rules ≡ rules_left (map added_of (with_tables hs made)))
   left_made left after hs made are rows rules =
       let sums = sum_made left after hs made are in
       let a = sums.0 in let b = sums.1 in let c = sums.2 in let d = sums.3 in
       (omega arith, omega arith)
 
-pub holders_stay : (hs : List Held) (made : List (Option PreparedTable)) → map holder_of (with_tables hs made) ≡ map holder_of hs
+pub holders_stay : (hs : List AddedModule) (made : List (Option PreparedTable)) → map holder_of (with_tables hs made) ≡ map holder_of hs
 holders_stay [] made = refl
 holders_stay (h ∷ hs) [] = refl
 holders_stay (h ∷ hs) (None ∷ made) = ap (λ l. h.holder ∷ l) (holders_stay hs made)
 holders_stay (h ∷ hs) (Some t ∷ made) = ap (λ l. h.holder ∷ l) (holders_stay hs made)
 
-pub added_made : (hs : List Held) (made : List (Option PreparedTable)) → map added_of (with_tables hs made) ≡ with_indexes (map added_of hs) (map index_made made)
+pub added_made : (hs : List AddedModule) (made : List (Option PreparedTable)) → map added_of (with_tables hs made) ≡ with_indexes (map added_of hs) (map index_made made)
 added_made [] made = refl
 added_made (h ∷ hs) [] = refl
 added_made (h ∷ hs) (None ∷ made) = ap (λ l. added_of h ∷ l) (added_made hs made)
@@ -195,7 +195,7 @@ count_made (Some t ∷ made) =
     omega arith
 
 -- nothing more is kept of a module that was just added
-pub left_pushed : (hs : List Held) (h : Held) → h.table ≡ None → (rows_left (map added_of (hs ++ h ∷ [])) ≡ rows_left (map added_of hs)) × (rules_left (map added_of (hs ++ h ∷ [])) ≡ rules_left (map added_of hs))
+pub left_pushed : (hs : List AddedModule) (h : AddedModule) → h.table ≡ None → (rows_left (map added_of (hs ++ h ∷ [])) ≡ rows_left (map added_of hs)) × (rules_left (map added_of (hs ++ h ∷ [])) ≡ rules_left (map added_of hs))
 left_pushed hs h none =
     let all : map added_of (hs ++ h ∷ []) ≡ map added_of hs ++ added_of h ∷ [] = map-append added_of hs (h ∷ []) in
     let is : (added_of h).index ≡ None = ap index_made none in
@@ -207,31 +207,31 @@ left_pushed hs h none =
 
 -- ---- one table after another is kept
 
-pub none_kept : (hs : List Held) → with_tables hs [] ≡ hs
+pub none_kept : (hs : List AddedModule) → with_tables hs [] ≡ hs
 none_kept [] = refl
 none_kept (h ∷ hs) = refl
 
-pub length_kept : (hs : List Held) (made : List (Option PreparedTable)) → length (with_tables hs made) ≡ length hs
+pub length_kept : (hs : List AddedModule) (made : List (Option PreparedTable)) → length (with_tables hs made) ≡ length hs
 length_kept [] made = refl
 length_kept (h ∷ hs) [] = refl
 length_kept (h ∷ hs) (o ∷ made) = ap suc (length_kept hs made)
 
 -- the module at a place keeps its own until its turn comes
-pub still_there : (hs : List Held) (made : List (Option PreparedTable)) (d : Held) → get_or (with_tables hs made) (length made) d ≡ get_or hs (length made) d
+pub still_there : (hs : List AddedModule) (made : List (Option PreparedTable)) (d : AddedModule) → get_or (with_tables hs made) (length made) d ≡ get_or hs (length made) d
 still_there [] made d = refl
 still_there (h ∷ hs) [] d = refl
 still_there (h ∷ hs) (o ∷ made) d = still_there hs made d
 
-pub skips : (hs : List Held) (made : List (Option PreparedTable)) → with_tables hs (made ++ None ∷ []) ≡ with_tables hs made
+pub skips : (hs : List AddedModule) (made : List (Option PreparedTable)) → with_tables hs (made ++ None ∷ []) ≡ with_tables hs made
 skips [] made = refl
 skips (h ∷ hs) [] = ap (λ l. h ∷ l) (none_kept hs)
 skips (h ∷ hs) (o ∷ made) = ap (λ l. with_table h o ∷ l) (skips hs made)
 
-pub keeps : (hs : List Held) (made : List (Option PreparedTable)) (o : Option PreparedTable) (h : Held) → length made < length hs → h ≡ get_or hs (length made) h → is_some o ≡ true →
+pub keeps : (hs : List AddedModule) (made : List (Option PreparedTable)) (o : Option PreparedTable) (h : AddedModule) → length made < length hs → h ≡ get_or hs (length made) h → is_some o ≡ true →
     with_tables hs (made ++ o ∷ []) ≡ set (with_tables hs made) (length made) (record h { table = o })
 keeps [] made o h lt there some = absurd (omega arith)
 keeps (g ∷ hs) [] None h lt there some = absurd cc
-keeps (g ∷ hs) [] (Some t) h lt there some = ap (λ l. record g { table = Some t } ∷ l) (none_kept hs) ∙ ap (λ (x : Held). record x { table = Some t } ∷ hs) (sym there)
+keeps (g ∷ hs) [] (Some t) h lt there some = ap (λ l. record g { table = Some t } ∷ l) (none_kept hs) ∙ ap (λ (x : AddedModule). record x { table = Some t } ∷ hs) (sym there)
 keeps (g ∷ hs) (p ∷ made) o h lt there some = ap (λ l. with_table g p ∷ l) (keeps hs made o h (omega arith) there some)
 
 -- how many there are
@@ -251,7 +251,7 @@ pub none_of : (o : Option PreparedTable) → is_some o ≡ false → o ≡ None
 none_of None e = refl
 none_of (Some t) e = absurd cc
 
-pub skips_by : (hs : List Held) (made : List (Option PreparedTable)) (o : Option PreparedTable) → o ≡ None → with_tables hs made ≡ with_tables hs (made ++ o ∷ [])
+pub skips_by : (hs : List AddedModule) (made : List (Option PreparedTable)) (o : Option PreparedTable) → o ≡ None → with_tables hs made ≡ with_tables hs (made ++ o ∷ [])
 skips_by hs made o none = sym (ap (λ (p : Option PreparedTable). with_tables hs (made ++ p ∷ [])) none ∙ skips hs made)
 
 pub no_more_by : (made : List (Option PreparedTable)) (o : Option PreparedTable) → o ≡ None → count_by is_some made ≡ count_by is_some (made ++ o ∷ [])
@@ -259,11 +259,11 @@ no_more_by made o none = sym (ap (λ (p : Option PreparedTable). count_by is_som
 
 -- ---- a space whose modules have their tables
 
-still_stands : (es : List (ℕ × Extent)) (hs : List Held) (made : List (Option PreparedTable)) → AllByRecursion (StandsAt hs) es → AllByRecursion (StandsAt (with_tables hs made)) es
+still_stands : (es : List (ℕ × ModuleEntry)) (hs : List AddedModule) (made : List (Option PreparedTable)) → AllByRecursion (StandsAt hs) es → AllByRecursion (StandsAt (with_tables hs made)) es
 still_stands [] hs made all = tt
 still_stands (e ∷ es) hs made all = (ap (λ l. slice_get l e.1.place) (holders_stay hs made) ∙ all.0, still_stands es hs made all.1)
 
-pub space_made : (image : List Span) (es : List (ℕ × Extent)) (hs : List Held) (left after : Left) (made : List (Option PreparedTable)) → IsSpace image es hs left → AreMade image left hs made after → IsSpace image es (with_tables hs made) after
+pub space_made : (image : List Span) (es : List (ℕ × ModuleEntry)) (hs : List AddedModule) (left after : Left) (made : List (Option PreparedTable)) → IsSpace image es hs left → AreMade image left hs made after → IsSpace image es (with_tables hs made) after
 space_made image es hs left after made is are =
     let kept = left_made image left after hs made are is.rows is.rules in
     record {
@@ -288,7 +288,7 @@ all_replaced (suc n) (x ∷ xs) (y ∷ ys) same is = ap (λ l. x ∷ l) (all_rep
 
 -- ---- one table after another, in place
 
-default_free : (hs : List Held) (n : ℕ) (d e : Held) → n < length hs → get_or hs n d ≡ get_or hs n e
+default_free : (hs : List AddedModule) (n : ℕ) (d e : AddedModule) → n < length hs → get_or hs n d ≡ get_or hs n e
 default_free [] n d e lt = absurd (omega arith)
 default_free (h ∷ hs) zero d e lt = refl
 default_free (h ∷ hs) (suc n) d e lt = default_free hs n d e (omega arith)
@@ -297,22 +297,22 @@ pub shorter : (made rest : List (Option PreparedTable)) (o : Option PreparedTabl
 shorter [] rest o = omega arith
 shorter (p ∷ made) rest o = let ih = shorter made rest o in omega arith
 
-abbrev tabled : Option PreparedTable → Held → Held
+abbrev tabled : Option PreparedTable → AddedModule → AddedModule
 tabled o h = record h { table = o }
 
-pub kept_by : (hs added : List Held) (made : List (Option PreparedTable)) (o : Option PreparedTable) (place : ℕ) (d : Held) → added ≡ with_tables hs made → place ≡ length made → length made < length hs → is_some o ≡ true →
+pub kept_by : (hs added : List AddedModule) (made : List (Option PreparedTable)) (o : Option PreparedTable) (place : ℕ) (d : AddedModule) → added ≡ with_tables hs made → place ≡ length made → length made < length hs → is_some o ≡ true →
     set added place (record { holder = (get_or added place d).holder; table = o }) ≡ with_tables hs (made ++ o ∷ [])
 kept_by hs added made o place d is at lt some =
     let n = length made in
     let h = get_or hs n d in
-    ap (λ (l : List Held). set l place (tabled o (get_or l place d))) is
+    ap (λ (l : List AddedModule). set l place (tabled o (get_or l place d))) is
     ∙ ap (λ (p : ℕ). set (with_tables hs made) p (tabled o (get_or (with_tables hs made) p d))) at
-    ∙ ap (λ (x : Held). set (with_tables hs made) n (tabled o x)) (still_there hs made d)
+    ∙ ap (λ (x : AddedModule). set (with_tables hs made) n (tabled o x)) (still_there hs made d)
     ∙ sym (keeps hs made o h lt (default_free hs n d h lt) some)
 
 -- ---- a space with one more module
 
-pub space_pushed : (image : List Span) (es ds : List (ℕ × Extent)) (hs : List Held) (k : ℕ) (x : Extent) (h : Held) (left : Left) → IsSpace image es hs left → AreApart 0 (modules_in ds) → k < x.end → lowest_shared (modules_in es) k x.end ≡ None →
+pub space_pushed : (image : List Span) (es ds : List (ℕ × ModuleEntry)) (hs : List AddedModule) (k : ℕ) (x : ModuleEntry) (h : AddedModule) (left : Left) → IsSpace image es hs left → AreApart 0 (modules_in ds) → k < x.end → lowest_shared (modules_in es) k x.end ≡ None →
     ds ≡ insert_entry nat_cmp es k x → x.place ≡ length hs → h.holder ≡ module_of (k, x) → h.table ≡ None → IsPlaced h.holder → IsSpace image ds (hs ++ h ∷ []) left
 space_pushed image es ds hs k x h left is apart some none at place holder unindexed placed =
     let both = stand_pushed es ds hs k x h is.apart some none at place holder is.stand is.back in
@@ -322,7 +322,7 @@ space_pushed image es ds hs k x h left is apart some none at place holder uninde
       laid_out = is.laid_out;
       stand = both.stand;
       back = both.back;
-      are_held = all_pushed (IsHeld image) hs h is.are_held (record { is_table = subst (λ (o : Option PreparedTable). IsTable image h.holder.tables o) (sym unindexed) tt; placed = placed });
+      are_held = all_pushed (IsAddedModule image) hs h is.are_held (record { is_table = subst (λ (o : Option PreparedTable). IsTable image h.holder.tables o) (sym unindexed) tt; placed = placed });
       rows = is.rows ∙ sym same.0;
       rules = is.rules ∙ sym same.1;
     }

@@ -28,7 +28,7 @@ use Rattle.stack_steps.proofs.ElfFrames.{IsElfCall}
 use Rattle.stack_steps.proofs.ElfFrames as elf
 use Rattle.stack_steps.proofs.MachoFrames as macho
 use Rattle.stack_steps.proofs.PeFrames as pe
-use Rattle.stack_steps.proofs.Holders.{elf_from_format, HoldsAt, held_at}
+use Rattle.stack_steps.proofs.Holders.{elf_from_format, HoldsAt, added_at}
 use Rattle.stack_steps.proofs.StepParts.{some_next, stepped_by, step_is}
 use Rattle.stack_steps.proofs.StoppedUndone.{IsElfStop, stopped_undone}
 
@@ -74,22 +74,22 @@ module _ (space : SpaceValue) (c : Context) (functions : List Function) (s : Sta
     call_asked low = let some : s.ra ≢ 0 = returns in let at : c.ra ≡ s.ra = ra_is in omega arith
 
   -- an address of the function lies in its module
-  held : (home : FormatModule) → Lies home → DescribesFormat space.image home (part_of home functions) → Contains functions call.callee → (a : ℕ) → call.callee.start ≤ a → a < call.callee.end → HoldsAt space.modules home a
-  held home lies d listed a low high =
-      held_at space.modules home a apart lies.0
+  added_module : (home : FormatModule) → Lies home → DescribesFormat space.image home (part_of home functions) → Contains functions call.callee → (a : ℕ) → call.callee.start ≤ a → a < call.callee.end → HoldsAt space.modules home a
+  added_module home lies d listed a low high =
+      added_at space.modules home a apart lies.0
       (in_home space.image (formats_of space) functions call.callee (record { home = home; known = lies.0; inside = lies.1; is_function = lies.2; describes = d }) listed a low high)
 
   -- so the function ends below 2 ^ 64
   ends_low : (home : FormatModule) → Lies home → DescribesFormat space.image home (part_of home functions) → Contains functions call.callee → (a : ℕ) → call.callee.start ≤ a → a < call.callee.end → call.callee.end < 2 ^ 64
   ends_low home lies d listed a low high =
-      let last = (held home lies d listed (call.callee.end - 1) (omega arith) (omega arith)).low in
+      let last = (added_module home lies d listed (call.callee.end - 1) (omega arith) (omega arith)).low in
       omega arith
 
   -- and the return address of a call is an address
   pub returns_low : IsDescribedCall space.image (formats_of space) functions s call → s.ra < 2 ^ 64
   returns_low is =
       let at = body_lies (convention_of is.lies.home) call.callee (s.ra - 1) is.lies.is_function is.called.inside in
-      let next = (held is.lies.home (is.lies.known, is.lies.inside, is.lies.is_function) is.lies.describes is.listed (s.ra - 1) at.0 at.1).low in
+      let next = (added_module is.lies.home (is.lies.known, is.lies.inside, is.lies.is_function) is.lies.describes is.listed (s.ra - 1) at.0 at.1).low in
       let some : s.ra ≢ 0 = is.called.returns in
       omega arith
 
@@ -132,13 +132,13 @@ module _ (space : SpaceValue) (c : Context) (functions : List Function) (s : Sta
     macho_call m lies d =
         let at = body_lies SystemV call.callee (s.ra - 1) lies.2 is.called.inside in
         macho.framed space c false (s.ra - 1) (not_zero shows is.called.returns) (call_asked shows is.called.returns low) call.callee at.0 at.1 call.caller m
-        (held (Macho m) lies d is.listed (s.ra - 1) at.0 at.1) lies.2 is.called.inside (part_of (Macho m) functions) d (in_part functions call.callee (Macho m) is.listed lies.1) (stepped (Macho m) lies d)
+        (added_module (Macho m) lies d is.listed (s.ra - 1) at.0 at.1) lies.2 is.called.inside (part_of (Macho m) functions) d (in_part functions call.callee (Macho m) is.listed lies.1) (stepped (Macho m) lies d)
 
     pe_call : (m : Rattle.format_definitions.specs.PeImage.PeModule) → Lies (Pe m) → DescribesFormat space.image (Pe m) (part_of (Pe m) functions) → FormatFrame space c false (Pe m) call.callee (s.ra - 1) call.caller
     pe_call m lies d =
         let at = body_lies Windows call.callee (s.ra - 1) lies.2 is.called.inside in
         pe.framed space c false (s.ra - 1) (not_zero shows is.called.returns) (call_asked shows is.called.returns low) call.callee at.0 at.1 call.caller m
-        (held (Pe m) lies d is.listed (s.ra - 1) at.0 at.1) lies.2 (part_of (Pe m) functions) d (in_part functions call.callee (Pe m) is.listed lies.1) (stepped (Pe m) lies d)
+        (added_module (Pe m) lies d is.listed (s.ra - 1) at.0 at.1) lies.2 (part_of (Pe m) functions) d (in_part functions call.callee (Pe m) is.listed lies.1) (stepped (Pe m) lies d)
 
     met_in : (home : FormatModule) → Lies home → DescribesFormat space.image home (part_of home functions) → Met space c s call
     met_in (Elf m) lies d = elf.met space c functions s call apart laid (call_in_elf m lies d is) shows
@@ -171,12 +171,12 @@ module _ (space : SpaceValue) (c : Context) (functions : List Function) (s : Sta
     undone_at_stop (Macho m) lies d stands =
         let at = stop_lies space.image s call (Macho m) (part_of (Macho m) functions) d lies.2 stands in
         undone_by (Macho m) true s.ra (macho.framed space c true s.ra (not_zero shows is.returns) (ra_is shows is.returns) call.callee at.0 at.1 call.caller m
-        (held (Macho m) lies d is.listed s.ra at.0 at.1) lies.2 stands.inside (part_of (Macho m) functions) d (in_part functions call.callee (Macho m) is.listed lies.1)
+        (added_module (Macho m) lies d is.listed s.ra at.0 at.1) lies.2 stands.inside (part_of (Macho m) functions) d (in_part functions call.callee (Macho m) is.listed lies.1)
         (undone_at space.image (formats_of space) functions s call is (columns_of c) shows (Macho m) lies.1 lies.2 d stands))
     undone_at_stop (Pe m) lies d stands =
         let at = stop_lies space.image s call (Pe m) (part_of (Pe m) functions) d lies.2 stands in
         undone_by (Pe m) true s.ra (pe.framed space c true s.ra (not_zero shows is.returns) (ra_is shows is.returns) call.callee at.0 at.1 call.caller m
-        (held (Pe m) lies d is.listed s.ra at.0 at.1) lies.2 (part_of (Pe m) functions) d (in_part functions call.callee (Pe m) is.listed lies.1)
+        (added_module (Pe m) lies d is.listed s.ra at.0 at.1) lies.2 (part_of (Pe m) functions) d (in_part functions call.callee (Pe m) is.listed lies.1)
         (undone_at space.image (formats_of space) functions s call is (columns_of c) shows (Pe m) lies.1 lies.2 d stands))
 
   -- The step from a stopped state answers its caller.

@@ -11,8 +11,8 @@ use Rattle.format_definitions.specs.PeImage.{PeModule, table_of}
 use Rattle.format_definitions.specs.PeStep.{PeFault, NoTable, InFrame}
 use Rattle.format_definitions.specs.PeStep as pe_steps
 use Rattle.format_frames.specs.declared.machine.Stepped.{Stepped}
-use Rattle.stack_steps.specs.declared.answers.DeliverError.{DeliverError}
-use Rattle.stack_steps.specs.declared.answers.DeliverError.TheVariants.{Unmapped, PeInfo, ChainLimit}
+use Rattle.stack_steps.specs.declared.error.DeliverError.{DeliverError}
+use Rattle.stack_steps.specs.declared.error.DeliverError.TheVariants.{Unmapped, PeInfo, ChainLimit}
 use Rattle.stack_steps.specs.declared.space.Module.{Module}
 use Rattle.stack_steps.specs.declared.space.PeTables.{PeTables}
 use Rattle.stack_steps.specs.Frames.{next_with}

@@ -28,7 +28,7 @@ use Rattle.format_definitions.specs.PeModules.{NamesNoHandler, NamesLanguage, De
 use Rattle.format_frames.specs.Handlers.{handler_place, pe_place}
 use Rattle.format_laws.proofs.Silent.{silent_action}
 use Rattle.format_laws.proofs.PeSteps.{found_by_record, leaf_not_found}
-use Rattle.stack_steps.specs.declared.answers.DeliverError.{DeliverError}
+use Rattle.stack_steps.specs.declared.error.DeliverError.{DeliverError}
 use Rattle.stack_steps.specs.Asking.{action_if_named}
 use Rattle.stack_steps.specs.Pe.{recorded_table, module_of, refusal as pe_refusal, recorded_frame, recorded_columns}
 use Rattle.stack_steps.proofs.MachoFrames.{asks_at_place}

@@ -9,7 +9,7 @@ use Rattle.fde_finders.specs.FrameTables.{FrameTable}
 use Rattle.stack_steps.specs.declared.prepared.Left.{Left}
 use Rattle.stack_steps.specs.declared.prepared.PreparedTable.{PreparedTable}
 use Rattle.stack_steps.specs.declared.shared_table.Tried.{Tried}
-use Rattle.stack_steps.specs.Held.{FitsWithin, IsMadeOf, IsTableOf, IsTried, PreparesTable, kept_table}
+use Rattle.stack_steps.specs.AddedModule.{FitsWithin, IsMadeOf, IsTableOf, IsTried, PreparesTable, kept_table}
 use Rattle.stack_steps.specs.Preparing.{HasNoIndex}
 
 module _ (image : List Span) (tables : FrameInfo) where

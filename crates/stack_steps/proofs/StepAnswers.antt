@@ -9,14 +9,14 @@ use Rattle.unwind_laws.proofs.Booleans.{both_true}
 use Rattle.unwind_arch.specs.declared.x86_64.Context.{Context}
 use Rattle.macho_unwind_info.specs.declared.error.Error.{Error as MachoError}
 use Rattle.format_frames.specs.declared.machine.Stepped.{Stepped}
-use Rattle.stack_steps.specs.declared.answers.DeliverError.{DeliverError}
-use Rattle.stack_steps.specs.declared.answers.DeliverError.TheVariants.{NoMemory, Unmapped, FrameLimit, PassLimit, NoResume, Table, MachO, CompactForm, PeInfo, ChainLimit}
+use Rattle.stack_steps.specs.declared.error.DeliverError.{DeliverError}
+use Rattle.stack_steps.specs.declared.error.DeliverError.TheVariants.{NoMemory, Unmapped, FrameLimit, PassLimit, NoResume, Table, MachO, CompactForm, PeInfo, ChainLimit}
 use Rattle.stack_steps.specs.declared.space.Module.{Module}
 use Rattle.stack_steps.specs.declared.space.ModuleTables.{ModuleTables}
 use Rattle.stack_steps.specs.declared.space.ModuleTables.TheVariants.{Elf, Macho, Pe}
 use Rattle.stack_steps.specs.Modules.{SpaceValue, contains, module_at}
 use Rattle.stack_steps.specs.Frames.{FrameAt}
-use Rattle.stack_steps.specs.Stepping.{frame_by_tables, frame_in, frame_of, step_of, FindsNoneIn, HasNoDescription, EndsAt, IsHeldBy, TablesFault, FaultsAt, SectionFaults, IsUnreadSection, HasNoForm, IsWithoutForm}
+use Rattle.stack_steps.specs.Stepping.{frame_by_tables, frame_in, frame_of, step_of, FindsNoneIn, HasNoDescription, EndsAt, IsInModule, TablesFault, FaultsAt, SectionFaults, IsUnreadSection, HasNoForm, IsWithoutForm}
 use Rattle.stack_steps.specs.Stepping.{RecordsUnread, IsUnreadInfo, ChainsTooMany, IsChainedTooLong, TablesRead, ReadIsUnmapped, TablesGive, GivesCaller}
 use Rattle.stack_steps.proofs.ElfAnswers as elf
 use Rattle.stack_steps.proofs.MachoAnswers as macho
@@ -228,26 +228,26 @@ module _ (space : SpaceValue) (c : Context) (interrupted : Bool) where
 
   -- what a step answers, but the end of the stack, the module that holds the address does
   held_step : (P : Module → ModuleTables → ℕ → Type 0) (r : Result (Option Stepped) DeliverError) → r ≢ Ok None → ((m : Module) (tables : ModuleTables) → m.start ≤ at_call → step_in m tables ≡ r → P m tables at_call) →
-      step_of space c interrupted ≡ r → IsHeldBy space c interrupted P
+      step_of space c interrupted ≡ r → IsInModule space c interrupted P
   unfolding frame_of
-  held_step P r some each is = elim (eqb_tells c.ra 0) as (λ t. IsHeldBy space c interrupted P) [
+  held_step P r some each is = elim (eqb_tells c.ra 0) as (λ t. IsInModule space c interrupted P) [
     | inl nowhere ↦ let none : Ok None ≡ r = rw nowhere.0 at (sym (step_is space c interrupted) ∙ is) in absurd (some (sym none))
     | inr returns ↦ go returns.1 (module_at space.modules at_call) refl (rw returns.0 at (sym (step_is space c interrupted) ∙ is))
   ]
     where
-      go : c.ra ≢ 0 → (o : Option Module) → module_at space.modules at_call ≡ o → stepped_by space.image c (frame_in space.image at_call o) ≡ r → IsHeldBy space c interrupted P
+      go : c.ra ≢ 0 → (o : Option Module) → module_at space.modules at_call ≡ o → stepped_by space.image c (frame_in space.image at_call o) ≡ r → IsInModule space c interrupted P
       go returns None holds steps = absurd (some (sym steps))
       go returns (Some m) holds steps = record { returns = returns; holder = m; holds = holds; is = each m m.tables (starts_below space.modules m at_call holds) steps }
 
   step_held : (P : Module → ModuleTables → ℕ → Type 0) (r : Result (Option Stepped) DeliverError) → ((m : Module) (tables : ModuleTables) → m.start ≤ at_call → P m tables at_call → step_in m tables ≡ r) →
-      IsHeldBy space c interrupted P → step_of space c interrupted ≡ r
+      IsInModule space c interrupted P → step_of space c interrupted ≡ r
   unfolding frame_of
-  step_held P r each held =
-      let some : c.ra ≢ 0 = held.returns in
+  step_held P r each added_module =
+      let some : c.ra ≢ 0 = added_module.returns in
       let nonzero : eqb c.ra 0 ≡ false = grind (arith, nat_tests) in
-      let m : Module = held.holder in
-      let framed : here ≡ frame_by_tables space.image at_call m m.tables = rw (nonzero, held.holds) refl in
-      step_is space c interrupted ∙ ap (stepped_by space.image c) framed ∙ each m m.tables (starts_below space.modules m at_call held.holds) held.is
+      let m : Module = added_module.holder in
+      let framed : here ≡ frame_by_tables space.image at_call m m.tables = rw (nonzero, added_module.holds) refl in
+      step_is space c interrupted ∙ ap (stepped_by space.image c) framed ∙ each m m.tables (starts_below space.modules m at_call added_module.holds) added_module.is
 
   -- a step answers an address that isn't mapped where what is found reads there, and nowhere else
   pub step_read : (b : ℕ) → step_of space c interrupted ≡ Err (Unmapped b) → ReadIsUnmapped space c interrupted b
@@ -303,5 +303,5 @@ module _ (space : SpaceValue) (c : Context) (interrupted : Bool) where
   -- no other error is one of a step
   pub step_errors : (e : DeliverError) → step_of space c interrupted ≡ Err e → IsStepError e
   step_errors e is =
-      let held = held_step (λ m tables a. IsStepError e) (Err e) (λ h. absurd cc) (λ m tables from s. tables_only space.image c m at_call from e tables s) is in
-      held.is
+      let added_module = held_step (λ m tables a. IsStepError e) (Err e) (λ h. absurd cc) (λ m tables from s. tables_only space.image c m at_call from e tables s) is in
+      added_module.is

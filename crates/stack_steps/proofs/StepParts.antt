@@ -9,7 +9,7 @@ use Rattle.unwind_arch.specs.ContextViews.{columns_of, context_of}
 use Rattle.unwind_definitions.specs.Expressions.{evaluation}
 use Rattle.fde_finders.specs.Finding.{FoundFde}
 use Rattle.format_frames.specs.declared.machine.Stepped.{Stepped}
-use Rattle.stack_steps.specs.declared.answers.DeliverError.{DeliverError}
+use Rattle.stack_steps.specs.declared.error.DeliverError.{DeliverError}
 use Rattle.stack_steps.specs.Modules.{SpaceValue}
 use Rattle.memory_image.specs.Results.{◌>>=◌, result_map}
 use Rattle.stack_steps.specs.Frames.{FrameAt, DescribedFrame}

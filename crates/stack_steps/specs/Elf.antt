@@ -21,8 +21,8 @@ use Rattle.fde_finders.specs.Finding.{FoundFde, relative_to, table_bases}
 use Rattle.fde_finders.specs.HeaderFinding.{found_by_header}
 use Rattle.fde_finders.specs.Named.{found_by}
 use Rattle.format_frames.specs.declared.machine.Stepped.{Stepped}
-use Rattle.stack_steps.specs.declared.answers.DeliverError.{DeliverError}
-use Rattle.stack_steps.specs.declared.answers.DeliverError.TheVariants.{Table}
+use Rattle.stack_steps.specs.declared.error.DeliverError.{DeliverError}
+use Rattle.stack_steps.specs.declared.error.DeliverError.TheVariants.{Table}
 use Rattle.stack_steps.specs.Frames.{FrameAt, DescribedFrame, Described, next_with, refusal_of}
 
 -- ---- what is found

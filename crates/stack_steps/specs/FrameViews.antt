@@ -8,7 +8,7 @@ use Rattle.encoded_pointers.specs.PointerViews.{bases_of}
 use Rattle.eh_frame.specs.EntryViews.{table_of}
 use Rattle.fde_finders.specs.FoundViews.{found_fde_of}
 use Rattle.fde_finders.specs.Finding.{FoundFde}
-use Rattle.stack_steps.specs.declared.answers.DeliverError.{DeliverError}
+use Rattle.stack_steps.specs.declared.error.DeliverError.{DeliverError}
 use Rattle.stack_steps.specs.declared.frames.FoundFrame.{FoundFrame}
 use Rattle.stack_steps.specs.declared.frames.FoundFrame.TheVariants as code
 use Rattle.stack_steps.specs.declared.macho.CompactFrame.{CompactFrame}

@@ -10,8 +10,8 @@ use Rattle.pe_unwind_info.specs.declared.x86_64.function_table.RuntimeFunction.{
 use Rattle.format_definitions.specs.CompactStep.{MachoModule}
 use Rattle.format_definitions.specs.PeImage.{PeModule}
 use Rattle.format_frames.specs.declared.machine.Stepped.{Stepped}
-use Rattle.stack_steps.specs.declared.answers.DeliverError.{DeliverError}
-use Rattle.stack_steps.specs.declared.answers.DeliverError.TheVariants.{Table, Unmapped}
+use Rattle.stack_steps.specs.declared.error.DeliverError.{DeliverError}
+use Rattle.stack_steps.specs.declared.error.DeliverError.TheVariants.{Table, Unmapped}
 
 -- a description, and its row at the address asked
 pub record DescribedFrame : Type 0 where

@@ -3,7 +3,7 @@ use Rattle.std.specs.Prelude.{◌≡◌, true, Option, Some, Result, Ok}
 use Rattle.unwind_definitions.specs.State.{State, Shows}
 use Rattle.unwind_arch.specs.ContextViews.{columns_of}
 use Rattle.format_frames.specs.declared.machine.Stepped.{Stepped}
-use Rattle.stack_steps.specs.declared.answers.DeliverError.{DeliverError}
+use Rattle.stack_steps.specs.declared.error.DeliverError.{DeliverError}
 
 -- A step answers a context that shows a state, marked as one that a signal interrupted where it stands: of it the return address
 -- itself is asked next, and not the one before.

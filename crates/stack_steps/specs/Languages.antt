@@ -19,7 +19,7 @@ use Rattle.unwinding_frames.specs.declared.cxx.runtime.ExceptionKind.TheVariants
 use Rattle.unwinding_frames.specs.CxxTables.{Exception, contains, cxx_table_action}
 use Rattle.unwinding_frames.specs.CxxTables as cxx
 use Rattle.unwinding_frames.specs.CxxViews.{exception_of}
-use Rattle.stack_steps.specs.declared.answers.DeliverError.{DeliverError}
+use Rattle.stack_steps.specs.declared.error.DeliverError.{DeliverError}
 use Rattle.stack_steps.specs.declared.asking.FrameAction.{FrameAction}
 use Rattle.stack_steps.specs.declared.asking.FrameAction.TheVariants.{Nothing, Cleanup, Handler, Terminate, TerminateAfterCleanups}
 use Rattle.stack_steps.specs.declared.languages.Languages.{Languages as CodeLanguages}

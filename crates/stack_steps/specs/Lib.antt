@@ -5,9 +5,10 @@ pub mod FrameViews
 pub mod Frames
 pub mod Growing
 pub mod GrownSample
-pub mod Held
+pub mod AddedModule
 pub mod Macho
 pub mod Modules
+pub mod ModulesAsked
 pub mod Pe
 pub mod Preparing
 pub mod PreparedSample

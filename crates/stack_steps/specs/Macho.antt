@@ -20,8 +20,8 @@ use Rattle.format_frames.specs.declared.machine.Stepped.{Stepped}
 use Rattle.format_frames.specs.FrameData.{description_of}
 use Rattle.format_frames.specs.Handlers.{macho_place}
 use Rattle.format_frames.specs.Refusals.{function_at}
-use Rattle.stack_steps.specs.declared.answers.DeliverError.{DeliverError}
-use Rattle.stack_steps.specs.declared.answers.DeliverError.TheVariants.{Table, MachO, CompactForm}
+use Rattle.stack_steps.specs.declared.error.DeliverError.{DeliverError}
+use Rattle.stack_steps.specs.declared.error.DeliverError.TheVariants.{Table, MachO, CompactForm}
 use Rattle.stack_steps.specs.declared.space.Module.{Module}
 use Rattle.stack_steps.specs.declared.space.MachoTables.{MachoTables}
 use Rattle.stack_steps.specs.Frames.{FrameAt, Compact, next_with, refusal_of}

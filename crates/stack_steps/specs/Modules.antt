@@ -10,7 +10,7 @@ use Rattle.stack_steps.specs.declared.space.SpaceError.TheVariants.{Wraps, Overl
 use Rattle.stack_steps.specs.declared.space.Module.{Module}
 use Rattle.stack_steps.specs.declared.space.ModuleTables.{ModuleTables}
 use Rattle.stack_steps.specs.declared.space.ModuleTables.TheVariants.{Elf, Macho, Pe}
-use Rattle.stack_steps.specs.declared.space.Extent.{Extent}
+use Rattle.stack_steps.specs.declared.space.ModuleEntry.{ModuleEntry}
 
 -- a module that was added, and the index of its frame table, where the module is prepared
 pub record Added : Type 0 where
@@ -113,11 +113,11 @@ abbrev pub with_added : Module → SpaceValue → SpaceValue
 with_added m space = record space { modules = with_module m space.modules; added = space.added ++ without_index m ∷ [] }
 
 -- the module that starts at a key of the map
-abbrev pub module_of : ℕ × Extent → Module
+abbrev pub module_of : ℕ × ModuleEntry → Module
 module_of e = record { start = e.0; end = e.1.end; tables = e.1.tables }
 
 -- the modules that a map from starts holds
-abbrev pub modules_in : List (ℕ × Extent) → List Module
+abbrev pub modules_in : List (ℕ × ModuleEntry) → List Module
 modules_in es = map module_of es
 
 -- ---- the modules beside an address

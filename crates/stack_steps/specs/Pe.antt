@@ -19,8 +19,8 @@ use Rattle.format_definitions.specs.PeRegisters.{registers_in}
 use Rattle.format_definitions.specs.PeStep.{PeFault, NoTable, InFrame, columns_at, pe_step}
 use Rattle.format_frames.specs.declared.machine.Stepped.{Stepped}
 use Rattle.format_frames.specs.Handlers.{pe_place}
-use Rattle.stack_steps.specs.declared.answers.DeliverError.{DeliverError}
-use Rattle.stack_steps.specs.declared.answers.DeliverError.TheVariants.{Unmapped, PeInfo, ChainLimit}
+use Rattle.stack_steps.specs.declared.error.DeliverError.{DeliverError}
+use Rattle.stack_steps.specs.declared.error.DeliverError.TheVariants.{Unmapped, PeInfo, ChainLimit}
 use Rattle.stack_steps.specs.declared.space.Module.{Module}
 use Rattle.stack_steps.specs.declared.space.PeTables.{PeTables}
 use Rattle.stack_steps.specs.Frames.{FrameAt, Recorded, next_with}

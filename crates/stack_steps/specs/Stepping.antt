@@ -8,7 +8,7 @@ use Rattle.unwind_definitions.specs.LanguageSearch.{address_of_call}
 use Rattle.unwind_arch.specs.declared.x86_64.Context.{Context}
 use Rattle.macho_unwind_info.specs.declared.error.Error.{Error as MachoError}
 use Rattle.format_frames.specs.declared.machine.Stepped.{Stepped}
-use Rattle.stack_steps.specs.declared.answers.DeliverError.{DeliverError}
+use Rattle.stack_steps.specs.declared.error.DeliverError.{DeliverError}
 use Rattle.stack_steps.specs.declared.space.Module.{Module}
 use Rattle.stack_steps.specs.declared.space.ModuleTables.{ModuleTables}
 use Rattle.stack_steps.specs.declared.space.ModuleTables.TheVariants.{Elf, Macho, Pe}
@@ -70,7 +70,7 @@ abbrev pub EndsAt : SpaceValue → Context → Bool → Type 0
 EndsAt space c interrupted = (c.ra ≡ 0) ⊎ ((c.ra ≢ 0) × HasNoDescription space.image (module_at space.modules (address_of_call c.ra interrupted)) (address_of_call c.ra interrupted))
 
 -- the return address isn't 0, and of the module that holds the address asked this is so
-pub record IsHeldBy (space : SpaceValue) (c : Context) (interrupted : Bool) (P : Module → ModuleTables → ℕ → Type 0) : Type 0 where
+pub record IsInModule (space : SpaceValue) (c : Context) (interrupted : Bool) (P : Module → ModuleTables → ℕ → Type 0) : Type 0 where
   pub returns : c.ra ≢ 0
   pub holder : Module
   pub holds : module_at space.modules (address_of_call c.ra interrupted) ≡ Some holder
@@ -83,7 +83,7 @@ TablesFault image c e m (Macho tables) a = macho.Faults image c m tables a e
 TablesFault image c e m (Pe tables) a = pe.Faults image c m tables a e
 
 abbrev pub FaultsAt : SpaceValue → Context → Bool → Fault → Type 0
-FaultsAt space c interrupted e = IsHeldBy space c interrupted (TablesFault space.image c e)
+FaultsAt space c interrupted e = IsInModule space c interrupted (TablesFault space.image c e)
 
 -- The section of compact unwinding, or what a look-up of the address asked comes to, can't be read.
 abbrev pub SectionFaults : List Span → Context → MachoError → Module → ModuleTables → ℕ → Type 0
@@ -91,7 +91,7 @@ SectionFaults image c e m (Macho tables) a = macho.Unread image c m tables a e
 SectionFaults image c e m _ a = ⊥
 
 abbrev pub IsUnreadSection : SpaceValue → Context → Bool → MachoError → Type 0
-IsUnreadSection space c interrupted e = IsHeldBy space c interrupted (SectionFaults space.image c e)
+IsUnreadSection space c interrupted e = IsInModule space c interrupted (SectionFaults space.image c e)
 
 -- The opcode of the function that is listed at the address asked gives no caller.
 abbrev pub HasNoForm : List Span → Context → Module → ModuleTables → ℕ → Type 0
@@ -99,7 +99,7 @@ HasNoForm image c m (Macho tables) a = macho.WithoutForm image c m tables a
 HasNoForm image c m _ a = ⊥
 
 abbrev pub IsWithoutForm : SpaceValue → Context → Bool → Type 0
-IsWithoutForm space c interrupted = IsHeldBy space c interrupted (HasNoForm space.image c)
+IsWithoutForm space c interrupted = IsInModule space c interrupted (HasNoForm space.image c)
 
 -- A function table, an unwind record, or the code that may be an epilog's can't be read.
 abbrev pub RecordsUnread : List Span → Context → Module → ModuleTables → ℕ → Type 0
@@ -107,7 +107,7 @@ RecordsUnread image c m (Pe tables) a = pe.Unread image c m tables a
 RecordsUnread image c m _ a = ⊥
 
 abbrev pub IsUnreadInfo : SpaceValue → Context → Bool → Type 0
-IsUnreadInfo space c interrupted = IsHeldBy space c interrupted (RecordsUnread space.image c)
+IsUnreadInfo space c interrupted = IsInModule space c interrupted (RecordsUnread space.image c)
 
 -- More than 32 records are chained to the one that covers the address asked.
 abbrev pub ChainsTooMany : List Span → Context → Module → ModuleTables → ℕ → Type 0
@@ -115,7 +115,7 @@ ChainsTooMany image c m (Pe tables) a = pe.ChainsTooMany image c m tables a
 ChainsTooMany image c m _ a = ⊥
 
 abbrev pub IsChainedTooLong : SpaceValue → Context → Bool → Type 0
-IsChainedTooLong space c interrupted = IsHeldBy space c interrupted (ChainsTooMany space.image c)
+IsChainedTooLong space c interrupted = IsInModule space c interrupted (ChainsTooMany space.image c)
 
 -- What is found for the address asked reads what isn't wholly mapped: a row, an opcode or a PE frame.
 abbrev pub TablesRead : List Span → Context → ℕ → Module → ModuleTables → ℕ → Type 0
@@ -124,7 +124,7 @@ TablesRead image c a m (Macho tables) address = macho.Reads image c m tables add
 TablesRead image c a m (Pe tables) address = pe.Reads image c m tables address a
 
 abbrev pub ReadIsUnmapped : SpaceValue → Context → Bool → ℕ → Type 0
-ReadIsUnmapped space c interrupted a = IsHeldBy space c interrupted (TablesRead space.image c a)
+ReadIsUnmapped space c interrupted a = IsInModule space c interrupted (TablesRead space.image c a)
 
 abbrev pub TablesGive : List Span → Context → Stepped → Module → ModuleTables → ℕ → Type 0
 TablesGive image c next m (Elf tables) a = elf.Gives image c tables a next
@@ -133,4 +133,4 @@ TablesGive image c next m (Pe tables) a = pe.Gives image c m tables a next
 
 -- The tables of the module that holds the address asked give the caller, each kind by its own step.
 abbrev pub GivesCaller : SpaceValue → Context → Bool → Stepped → Type 0
-GivesCaller space c interrupted next = IsHeldBy space c interrupted (TablesGive space.image c next)
+GivesCaller space c interrupted next = IsInModule space c interrupted (TablesGive space.image c next)

@@ -4,7 +4,7 @@ use Rattle.unwind_definitions.specs.State.{State, Shows, KeepsOthers}
 use Rattle.unwind_definitions.specs.Caller.{Columns}
 use Rattle.unwind_arch.specs.ContextViews.{columns_of}
 use Rattle.format_frames.specs.declared.machine.Stepped.{Stepped}
-use Rattle.stack_steps.specs.declared.answers.DeliverError.{DeliverError}
+use Rattle.stack_steps.specs.declared.error.DeliverError.{DeliverError}
 use Rattle.format_definitions.specs.Modules.{FormatModule, KeepsIn}
 
 -- A step answers a context that shows a state, which isn't a signal's, and changes no column that a state doesn't have.

@@ -12,8 +12,8 @@ ghost use Rattle.stack_steps.specs.Languages.{asked_by_rust, asks_if_named, ende
 ghost use Rattle.stack_steps.specs.Languages.{is_taken, languages_of, pad_of, selector_of};
 ghost use Rattle.stack_steps.specs.Frames.{FrameAt};
 
-use crate::answers::DeliverError;
 use crate::elf;
+use crate::error::DeliverError;
 use crate::frames::FoundFrame;
 use crate::languages::Languages;
 use format_frames::Stepped;

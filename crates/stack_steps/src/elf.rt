@@ -16,17 +16,17 @@ ghost use Rattle.unwinding_frames.specs.LanguageViews.{answer_seen};
 ghost use Rattle.stack_steps.specs.Elf.{caller, frame, frame_by};
 ghost use Rattle.stack_steps.specs.FrameViews.{GivesFrameAt, prepared_fde};
 ghost use Rattle.stack_steps.specs.Frames.{DescribedFrame};
-ghost use Rattle.stack_steps.specs.Held.{IsTableOf};
+ghost use Rattle.stack_steps.specs.AddedModule.{IsTableOf};
 ghost use Rattle.stack_steps.specs.Languages.{asked_by_cxx, described_asks, languages_of};
 ghost use Rattle.stack_steps.specs.Ticking.{RisesBySearch};
 
-use crate::answers::DeliverError;
 use crate::asking::{FrameAction, asked_by_cxx, asked_by_rust};
+use crate::error::DeliverError;
 use crate::frames::FoundFrame;
 use crate::languages::Languages;
 use crate::prepared::PreparedTable;
 use eh_frame::{PreparedFrame, RowRef, RowRoom};
-use fde_finders::{FDESearchResult, FrameInfo, find_named};
+use fde_finders::{FDESearchResult, FrameInfo, find_by_tables};
 use format_frames::Stepped;
 use memory_image::{Ledger, MemoryImage, Steps};
 use unwind_arch::x86_64::{Arch, Context, RSP};
@@ -70,7 +70,7 @@ pub(crate) fn frame<'f, 'a, L: Ledger>(
     ensures frame { GivesFrameAt result (frame image.now address tables) }
     ensures ticks { RisesBySearch (pairs_by tables image.now) steps.old.number steps.new.number }
 {
-    match find_named(image, address, tables, steps) {
+    match find_by_tables(image, address, tables, steps) {
         Some(found) => described_frame(address, found, place, rows),
         None => Ok(None),
     }
@@ -120,7 +120,7 @@ pub(crate) fn prepared_frame<'f, 'a, L: Ledger>(
 /// the copy's registers are unspecified. `signal` says whether the description is of a signal's frame,
 /// and `stack` is a window over the image.
 #[inline(always)]
-pub(crate) fn leave(
+pub(crate) fn step_to_caller(
     stack: &mut Window<'_, '_>,
     callee: &Context,
     row: &RowRef<'_, '_>,

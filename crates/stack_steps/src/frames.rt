@@ -9,8 +9,8 @@ ghost use Rattle.stack_steps.specs.Modules.{IsPlaced};
 ghost use Rattle.stack_steps.specs.Stepping.{caller_by, frame_in};
 ghost use Rattle.stack_steps.specs.Ticking.{RisesBySearch, module_pairs};
 
-use crate::answers::DeliverError;
 use crate::elf::{self, SearchedFrame};
+use crate::error::DeliverError;
 use crate::macho::{self, CompactFrame};
 use crate::pe::{self, RecordedFrame};
 use crate::prepared::PreparedTable;
@@ -54,7 +54,7 @@ impl<'f, 'a> FoundFrame<'f, 'a> {
     /// Makes a copy of the state at the frame its caller's. After a fault the copy's registers are
     /// unspecified. `stack` is a window over the image.
     #[inline(always)]
-    pub(crate) fn leave(
+    pub(crate) fn step_to_caller(
         &self,
         stack: &mut Window<'_, 'a>,
         callee: &Context,
@@ -69,17 +69,17 @@ impl<'f, 'a> FoundFrame<'f, 'a> {
         match self {
             FoundFrame::Searched(searched) => {
                 let signal = searched.found.fde.is_signal_trampoline();
-                elf::leave(stack, callee, &searched.row, signal, next)
+                elf::step_to_caller(stack, callee, &searched.row, signal, next)
             }
             FoundFrame::Prepared(_, prepared) => match prepared.row() {
                 Ok(row) => {
                     let signal = prepared.is_signal_trampoline();
-                    elf::leave(stack, callee, row, signal, next)
+                    elf::step_to_caller(stack, callee, row, signal, next)
                 }
                 Err(fault) => Err(DeliverError::Table(fault)),
             },
-            FoundFrame::Compact(compact) => compact.leave(stack, next),
-            FoundFrame::Recorded(recorded) => recorded.leave(stack, next),
+            FoundFrame::Compact(compact) => compact.step_to_caller(stack, next),
+            FoundFrame::Recorded(recorded) => recorded.step_to_caller(stack, next),
         }
     }
 }

@@ -2,9 +2,9 @@
 //! the image holds, the indexes of their frame tables, the frame at a state, and its caller.
 #![tactic(auto)]
 
-mod answers;
 mod asking;
 mod elf;
+mod error;
 mod frames;
 mod grown;
 mod languages;
@@ -17,9 +17,9 @@ mod space;
 mod stepping;
 mod stops;
 
-pub use answers::DeliverError;
 pub use asking::{FrameAction, frame_asks};
 pub use elf::SearchedFrame;
+pub use error::DeliverError;
 pub use format_frames::Stepped;
 pub use frames::FoundFrame;
 pub use grown::{GrownSpace, an_image_grows};
@@ -28,7 +28,7 @@ pub use laws::{a_module_is_prepared, rust_alone_asks_by_rust};
 pub use macho::CompactFrame;
 pub use pe::RecordedFrame;
 pub use prepared::PreparedTable;
-pub use space::{MachoTables, Module, ModuleTables, PeTables, Space, SpaceError};
+pub use space::{AddedModule, MachoTables, Module, ModuleTables, PeTables, Space, SpaceError};
 pub use stepping::{Stepper, step};
 pub use stops::{
     calls_and_stops_in_formats_are_described, stops_after_each_step_are_described,

@@ -10,8 +10,8 @@ ghost use Rattle.stack_steps.specs.Asking.{named_table};
 ghost use Rattle.stack_steps.specs.Macho.{frame, opcode_frame};
 ghost use Rattle.stack_steps.specs.Stepping.{caller_by};
 
-use crate::answers::DeliverError;
 use crate::elf::described_frame;
+use crate::error::DeliverError;
 use crate::frames::FoundFrame;
 use crate::space::{MachoTables, Module};
 use eh_frame::RowRoom;
@@ -48,7 +48,7 @@ impl CompactFrame {
     /// Puts its caller, by the opcode of the function, in the place of its state. After a fault the
     /// state is as before. `stack` is a window over the image.
     #[inline(never)]
-    pub(crate) fn leave(
+    pub(crate) fn step_to_caller(
         &self,
         stack: &mut Window<'_, '_>,
         state: &mut Stepped,

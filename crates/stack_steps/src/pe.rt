@@ -8,7 +8,7 @@ ghost use Rattle.stack_steps.specs.Asking.{named_table};
 ghost use Rattle.stack_steps.specs.Pe.{frame};
 ghost use Rattle.stack_steps.specs.Stepping.{caller_by};
 
-use crate::answers::DeliverError;
+use crate::error::DeliverError;
 use crate::frames::FoundFrame;
 use crate::space::{Module, PeTables};
 use format_frames::{PeModule, Stepped, pe_caller, pe_functions, pe_place};
@@ -40,7 +40,7 @@ impl<'a> RecordedFrame<'a> {
     /// Puts its caller, by the unwind records of the function, in the place of its state. After a fault
     /// the state is as before. `stack` is a window over the image.
     #[inline(never)]
-    pub(crate) fn leave(
+    pub(crate) fn step_to_caller(
         &self,
         stack: &mut Window<'_, '_>,
         state: &mut Stepped,

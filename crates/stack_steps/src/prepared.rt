@@ -5,12 +5,12 @@ ghost use Rattle.fde_finders.specs.FoundViews.{found_fde_of};
 ghost use Rattle.fde_finders.specs.NamedTables.{named_of};
 ghost use Rattle.stack_steps.specs.FrameViews.{prepared_fde};
 ghost use Rattle.stack_steps.specs.Growing.{all_prepared};
-ghost use Rattle.stack_steps.specs.Held.{added_of, AreMade, IsTried, LeavesAfter, LeavesBy, MakesTable};
-ghost use Rattle.stack_steps.specs.Held.{PreparesTable, with_tables};
+ghost use Rattle.stack_steps.specs.AddedModule.{added_of, AreMade, IsTried, LeavesAfter, LeavesBy, MakesTable};
+ghost use Rattle.stack_steps.specs.AddedModule.{PreparesTable, with_tables};
 ghost use Rattle.stack_steps.specs.Preparing.{Lists, fdes_in};
 
 use crate::shared_table::{SharedTable, Tried, shared_table};
-use crate::space::{Held, ModuleTables};
+use crate::space::{AddedModule, ModuleTables};
 use eh_frame::{Bases, EhFrame, Prepared, PreparedFrame};
 use fde_finders::{FDESearchResult, FrameInfo, FrameInfoKind, NamedTable, named_table};
 use memory_image::MemoryImage;
@@ -125,18 +125,18 @@ fn lists(kind: FrameInfoKind, named: &NamedTable<'_>, index: &Prepared<'_>) -> b
 fn table_for<'a>(
     alloc: Global,
     image: &MemoryImage<'a>,
-    held: &Held<'a>,
+    added_module: &AddedModule<'a>,
     left: Left,
     tried: &mut Option<Tried<'a>>,
 ) -> Result<Option<SharedTable<'a>>, AllocError>
     requires { IsTried image.now left tried.old }
-    ensures made { IfOk result (λ table. MakesTable image.now left held.now table) }
+    ensures made { IfOk result (λ table. MakesTable image.now left added_module.now table) }
     ensures tried { IfOk result (λ table. LeavesAfter (IsTried image.now) left table tried.new) }
 {
-    if held.table.is_some() {
+    if added_module.table.is_some() {
         return Ok(None);
     }
-    match held.holder.tables {
+    match added_module.holder.tables {
         ModuleTables::Elf(tables) => shared_table(alloc, image, tables, left, tried),
         ModuleTables::Macho(_) | ModuleTables::Pe(_) => Ok(None),
     }
@@ -151,7 +151,7 @@ fn table_for<'a>(
 pub(crate) fn tables_for<'a>(
     alloc: Global,
     image: &MemoryImage<'a>,
-    added: &[Held<'a>],
+    added: &[AddedModule<'a>],
     most: Left,
 ) -> Result<(Vec<Option<SharedTable<'a>>>, Left), AllocError>
     ensures { IfOk result (λ r. AreMade image.now most added.now r.0.items r.1) }
@@ -159,8 +159,8 @@ pub(crate) fn tables_for<'a>(
     let mut left = most;
     let mut tried = None;
     let mut made = Vec::new(alloc);
-    for held in added {
-        let table = table_for(alloc, image, held, left, &mut tried)?;
+    for added_module in added {
+        let table = table_for(alloc, image, added_module, left, &mut tried)?;
         if let Some(shared) = &table {
             left = left.after(&shared.table().index);
         }
@@ -170,7 +170,7 @@ pub(crate) fn tables_for<'a>(
 }
 
 /// Keeps the tables that were made for modules. It answers how many these are.
-pub(crate) fn keep<'a>(added: &mut [Held<'a>], made: Vec<Option<SharedTable<'a>>>) -> u32
+pub(crate) fn keep<'a>(added: &mut [AddedModule<'a>], made: Vec<Option<SharedTable<'a>>>) -> u32
     requires each { length made.items ≡ length added.old }
     requires few { count_by is_some made.items < 2 ^ 32 }
     ensures tables { added.new ≡ with_tables added.old made.entry.items }
@@ -189,11 +189,11 @@ pub(crate) fn keep<'a>(added: &mut [Held<'a>], made: Vec<Option<SharedTable<'a>>
 }
 
 /// Whether each of these modules is prepared.
-pub(crate) fn are_prepared(added: &[Held<'_>]) -> bool
+pub(crate) fn are_prepared(added: &[AddedModule<'_>]) -> bool
     ensures { result ≡ all_prepared (map added_of added.now) }
 {
-    for held in added {
-        if held.table.is_none() {
+    for added_module in added {
+        if added_module.table.is_none() {
             return false;
         }
     }

@@ -1,7 +1,7 @@
 // Frame tables that modules share, with their indexes.
 ghost use Rattle.std.specs.Prelude.{◌≡◌, IfOk};
 ghost use Rattle.std.specs.Bool.{OnTrue};
-ghost use Rattle.stack_steps.specs.Held.{FitsWithin, IsTried, LeavesAfter, PreparesTable};
+ghost use Rattle.stack_steps.specs.AddedModule.{FitsWithin, IsTried, LeavesAfter, PreparesTable};
 
 use crate::prepared::{Left, PreparedTable};
 use fde_finders::FrameInfo;

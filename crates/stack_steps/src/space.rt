@@ -1,5 +1,5 @@
 // An image of memory, and the modules that lie in it.
-ghost use Rattle.std.specs.Prelude.{◌≡◌, ◌<◌, [], None, Some, IfOk, IfSome, MatchOption, ◌-◌, ◌≤◌, true};
+ghost use Rattle.std.specs.Prelude.{◌≡◌, ◌<◌, [], None, Some, IfOk, IfSome, MatchOption, ◌-◌, ◌≤◌, is_some, true};
 ghost use Rattle.std.specs.Prelude.{IsOkUnless, OnOk, OnErr, ◌↔◌};
 ghost use Rattle.std.specs.List.{Contains};
 ghost use Rattle.std.specs.Option.{option_map};
@@ -103,7 +103,7 @@ pub struct PeTables {
 
 /// What a module is beside its start.
 #[derive(Clone, Copy, Debug, Drop)]
-struct Extent {
+struct ModuleEntry {
     end: u64,
     tables: ModuleTables,
     // in the order of adding
@@ -112,9 +112,19 @@ struct Extent {
 
 /// A module that was added, and its frame table with an index, where it is prepared.
 #[derive(Drop)]
-pub(crate) struct Held<'a> {
+pub struct AddedModule<'a> {
     pub(crate) holder: Module,
     pub(crate) table: Option<SharedTable<'a>>,
+}
+
+impl<'a> AddedModule<'a> {
+    /// Whether it has an index.
+    #[inline(always)]
+    pub fn is_prepared(&self) -> bool
+        ensures { result ≡ is_some self.now.table }
+    {
+        self.table.is_some()
+    }
 }
 
 /// Why a module isn't taken.
@@ -142,16 +152,16 @@ pub enum SpaceError {
 pub struct Space<'a> {
     image: MemoryImage<'a>,
     // by start
-    modules: BTreeMap<u64, Extent>,
+    modules: BTreeMap<u64, ModuleEntry>,
     // in the order of adding
-    added: Vec<Held<'a>>,
+    added: Vec<AddedModule<'a>>,
     left: Left,
     alloc: Global,
 }
 
 impl<'a> Model for Space<'a> {
     ghost use Rattle.std.specs.Prelude.{map};
-    ghost use Rattle.stack_steps.specs.Held.{IsSpace, added_of};
+    ghost use Rattle.stack_steps.specs.AddedModule.{IsSpace, added_of};
     ghost use Rattle.stack_steps.specs.Modules.{SpaceValue, modules_in};
 
     ghost Value = { SpaceValue };
@@ -166,7 +176,7 @@ impl<'a> Model for Space<'a> {
 }
 
 impl<'a> Space<'a> {
-    ghost use Rattle.stack_steps.specs.Held.{IsHeld, added_of, holder_of};
+    ghost use Rattle.stack_steps.specs.AddedModule.{IsAddedModule, added_of, holder_of};
     ghost use Rattle.std.specs.List.{AllByRecursion};
     ghost use Rattle.stack_steps.specs.Preparing.{IsAddedTo, Prepares, index_at, prepared_len};
 
@@ -316,9 +326,12 @@ impl<'a> Space<'a> {
             return Err(SpaceError::NoMemory);
         }
         let place = self.added.len();
-        match self.modules.insert(start, Extent { end, tables, place }) {
+        match self
+            .modules
+            .insert(start, ModuleEntry { end, tables, place })
+        {
             Ok(_) => {
-                self.added.push_reserved(Held {
+                self.added.push_reserved(AddedModule {
                     holder: Module { start, end, tables },
                     table: None,
                 });
@@ -364,8 +377,8 @@ impl<'a> Space<'a> {
         ensures len { result ≡ prepared_len self.now address }
         ensures none { (result ≡ 0) ↔ (index_at self.now.added address ≡ None) }
     {
-        match self.held_at(address) {
-            Some(held) => match &held.table {
+        match self.added_at(address) {
+            Some(added_module) => match &added_module.table {
                 Some(shared) => shared.table().index.len(),
                 None => 0,
             },
@@ -384,44 +397,44 @@ impl<'a> Space<'a> {
     pub fn module_at(&self, address: u64) -> Option<Module>
         ensures { result ≡ module_at self.now.modules address }
     {
-        match self.held_at(address) {
-            Some(held) => Some(held.holder),
+        match self.added_at(address) {
+            Some(added_module) => Some(added_module.holder),
             None => None,
         }
     }
 
     /// The module that contains the address, with its table, where it is prepared.
-    pub(crate) fn held_at(&self, address: u64) -> Option<&Held<'a>>
-        ensures module { option_map (λ held. holder_of held.now) result ≡
+    pub(crate) fn added_at(&self, address: u64) -> Option<&AddedModule<'a>>
+        ensures module { option_map (λ added_module. holder_of added_module.now) result ≡
             module_at self.now.modules address }
         ensures index { MatchOption result (index_at self.now.added address ≡ None)
-            (λ held. index_at self.now.added address ≡ (added_of held.now).index) }
-        ensures table { IfSome result (λ held. IsHeld self.now.image held.now) }
-        ensures within { IfSome result (λ held. (held.now.holder.start ≤ address) ×
-            (address < held.now.holder.end)) }
+            (λ added_module. index_at self.now.added address ≡ (added_of added_module.now).index) }
+        ensures table { IfSome result (λ added_module. IsAddedModule self.now.image added_module.now) }
+        ensures within { IfSome result (λ added_module. (added_module.now.holder.start ≤ address) ×
+            (address < added_module.now.holder.end)) }
     {
-        self.held_near(address, &mut 0)
+        self.added_near(address, &mut 0)
     }
 
     /// The same. The module at the place `near` in the order of adding is tried first, and the place
     /// becomes that of the module that is found by a search.
-    pub(crate) fn held_near(&self, address: u64, near: &mut usize) -> Option<&Held<'a>>
-        ensures module { option_map (λ held. holder_of held.now) result ≡
+    pub(crate) fn added_near(&self, address: u64, near: &mut usize) -> Option<&AddedModule<'a>>
+        ensures module { option_map (λ added_module. holder_of added_module.now) result ≡
             module_at self.now.modules address }
         ensures index { MatchOption result (index_at self.now.added address ≡ None)
-            (λ held. index_at self.now.added address ≡ (added_of held.now).index) }
-        ensures table { IfSome result (λ held. IsHeld self.now.image held.now) }
-        ensures within { IfSome result (λ held. (held.now.holder.start ≤ address) ×
-            (address < held.now.holder.end)) }
+            (λ added_module. index_at self.now.added address ≡ (added_of added_module.now).index) }
+        ensures table { IfSome result (λ added_module. IsAddedModule self.now.image added_module.now) }
+        ensures within { IfSome result (λ added_module. (added_module.now.holder.start ≤ address) ×
+            (address < added_module.now.holder.end)) }
     {
-        if let Some(held) = self.held_there(address, *near) {
-            return Some(held);
+        if let Some(added_module) = self.added_there(address, *near) {
+            return Some(added_module);
         }
         match last_below(&self.modules, address) {
-            Some((_, extent)) => {
-                if address < extent.end {
-                    *near = extent.place;
-                    Some(&self.added[extent.place])
+            Some((_, module_entry)) => {
+                if address < module_entry.end {
+                    *near = module_entry.place;
+                    Some(&self.added[module_entry.place])
                 } else {
                     None
                 }
@@ -431,21 +444,21 @@ impl<'a> Space<'a> {
     }
 
     /// The module at a place in the order of adding, if there is one and it contains the address.
-    fn held_there(&self, address: u64, place: usize) -> Option<&Held<'a>>
-        ensures module { IfSome result (λ held.
-            module_at self.now.modules address ≡ Some (holder_of held.now)) }
-        ensures index { IfSome result (λ held.
-            index_at self.now.added address ≡ (added_of held.now).index) }
-        ensures table { IfSome result (λ held. IsHeld self.now.image held.now) }
-        ensures within { IfSome result (λ held. (held.now.holder.start ≤ address) ×
-            (address < held.now.holder.end)) }
+    fn added_there(&self, address: u64, place: usize) -> Option<&AddedModule<'a>>
+        ensures module { IfSome result (λ added_module.
+            module_at self.now.modules address ≡ Some (holder_of added_module.now)) }
+        ensures index { IfSome result (λ added_module.
+            index_at self.now.added address ≡ (added_of added_module.now).index) }
+        ensures table { IfSome result (λ added_module. IsAddedModule self.now.image added_module.now) }
+        ensures within { IfSome result (λ added_module. (added_module.now.holder.start ≤ address) ×
+            (address < added_module.now.holder.end)) }
     {
         if place >= self.added.len() {
             return None;
         }
-        let held = &self.added[place];
-        if held.holder.contains(address) {
-            Some(held)
+        let added_module = &self.added[place];
+        if added_module.holder.contains(address) {
+            Some(added_module)
         } else {
             None
         }
@@ -463,19 +476,19 @@ impl<'a> Space<'a> {
 }
 
 /// The last module that starts at or below the address.
-fn last_below(modules: &BTreeMap<u64, Extent>, address: u64) -> Option<(u64, Extent)>
+fn last_below(modules: &BTreeMap<u64, ModuleEntry>, address: u64) -> Option<(u64, ModuleEntry)>
     ensures last { option_map module_of result ≡ last_below (modules_in modules.now.entries)
         address }
     ensures stands { IfSome result (λ entry. Contains modules.now.entries entry) }
 {
     match modules.range(..=address).next_back() {
-        Some((start, extent)) => Some((*start, *extent)),
+        Some((start, module_entry)) => Some((*start, *module_entry)),
         None => None,
     }
 }
 
 /// The start of the first module that starts from `start` to before `end`.
-fn first_between(modules: &BTreeMap<u64, Extent>, start: u64, end: u64) -> Option<u64>
+fn first_between(modules: &BTreeMap<u64, ModuleEntry>, start: u64, end: u64) -> Option<u64>
     requires { start < end }
     ensures { result ≡ first_between (modules_in modules.now.entries) start end }
 {
@@ -486,13 +499,13 @@ fn first_between(modules: &BTreeMap<u64, Extent>, start: u64, end: u64) -> Optio
 }
 
 /// The lowest start of a module that has an address from `start` to before `end`.
-fn lowest_shared(modules: &BTreeMap<u64, Extent>, start: u64, end: u64) -> Option<u64>
+fn lowest_shared(modules: &BTreeMap<u64, ModuleEntry>, start: u64, end: u64) -> Option<u64>
     requires apart { AreApart 0 (modules_in modules.now.entries) }
     requires some { start < end }
     ensures { result ≡ lowest_shared (modules_in modules.now.entries) start end }
 {
-    if let Some((first, extent)) = last_below(modules, start) {
-        if start < extent.end {
+    if let Some((first, module_entry)) = last_below(modules, start) {
+        if start < module_entry.end {
             return Some(first);
         }
     }

@@ -1,6 +1,6 @@
 // From a frame to its caller, by the tables of the module that holds it.
 ghost use Rattle.std.specs.Prelude.{◌≡◌, ◌≢◌, ◌↔◌, ◌<◌, ◌≤◌, ◌^◌, ℕ, List, length, Option, Some, None, Ok};
-ghost use Rattle.std.specs.Prelude.{Err, IfSome, IsNone, IsTrue, IsFalse, MatchOption, OnErr, Result, true};
+ghost use Rattle.std.specs.Prelude.{Err, IfSome, IsNone, IsTrue, IsFalse, MatchOption, OnErr, Result, false, is_some, true};
 ghost use Rattle.memory_image.specs.Image.{word_at, IsLaidOut};
 ghost use Rattle.unwind_definitions.specs.declared.error.Error.{Error as Fault};
 ghost use Rattle.unwind_definitions.specs.State.{State, IsState, Shows};
@@ -14,8 +14,9 @@ ghost use Rattle.eh_frame.specs.Index.{AreFewSteps};
 ghost use Rattle.macho_unwind_info.specs.declared.error.Error.{Error as MachoFault};
 ghost use Rattle.format_definitions.specs.Calls.{IsDescribedCall};
 ghost use Rattle.format_definitions.specs.Stops.{IsDescribedStop};
-ghost use Rattle.stack_steps.specs.Held.{IsHeld, added_of};
+ghost use Rattle.stack_steps.specs.AddedModule.{IsAddedModule, added_of};
 ghost use Rattle.stack_steps.specs.Modules.{AreApart};
+ghost use Rattle.stack_steps.specs.ModulesAsked.{IsAsked};
 ghost use Rattle.stack_steps.specs.Preparing.{prepared_len};
 ghost use Rattle.stack_steps.specs.SpaceViews.{process_of, formats_of};
 ghost use Rattle.stack_steps.specs.FrameViews.{IsFrameOf, GivesFrameAt};
@@ -32,12 +33,12 @@ ghost use Rattle.stack_steps.specs.Stepping.{IsUnreadSection, IsWithoutForm, IsU
 ghost use Rattle.stack_steps.specs.Stepping.{IsChainedTooLong};
 ghost use Rattle.stack_steps.specs.Undoing.{Undone, UndoneIn};
 
-use crate::answers::DeliverError;
 use crate::elf;
+use crate::error::DeliverError;
 use crate::frames::{self, FoundFrame};
 use crate::grown::GrownSpace;
 use crate::prepared::PreparedTable;
-use crate::space::{Held, Space};
+use crate::space::{AddedModule, Space};
 use eh_frame::RowRoom;
 use fde_finders::FDESearchResult;
 use format_frames::Stepped;
@@ -94,20 +95,21 @@ where
         image
     }
 
-    /// The module whose tables are asked for the frame at a state, `None` at the end of the stack.
+    /// The module that holds the address asked at a state, `None` at the end of the stack.
     #[tactic(auto, unfolding(crate::specs::Stepping::frame_of))]
-    fn holder_at(&mut self, context: &Context, interrupted: bool) -> Option<&'s Held<'t>>
+    fn holder_at(&mut self, context: &Context, interrupted: bool) -> Option<&'s AddedModule<'t>>
         ensures ends { IsNone result → frame_of self.old context.now interrupted ≡ Ok None }
-        ensures frame { IfSome result (λ held.
+        ensures frame { IfSome result (λ added_module.
             frame_of self.old context.now interrupted ≡ frame_in self.old.image
-            (address_of_call context.now.ra interrupted) (Some held.now.holder)) }
-        ensures held { IfSome result (λ held. IsHeld self.old.image held.now) }
-        ensures within { IfSome result (λ held.
+            (address_of_call context.now.ra interrupted) (Some added_module.now.holder)) }
+        ensures added_module { IfSome result (λ added_module.
+            IsAddedModule self.old.image added_module.now) }
+        ensures within { IfSome result (λ added_module.
             let address = address_of_call context.now.ra interrupted in
-            (held.now.holder.start ≤ address) × (address < held.now.holder.end)) }
+            (added_module.now.holder.start ≤ address) × (address < added_module.now.holder.end)) }
         ensures ticks { (old new : ℕ) →
             MatchOption result (new ≡ old)
-            (λ held. TicksIn self.old.image (added_of held.now) old new) →
+            (λ added_module. TicksIn self.old.image (added_of added_module.now) old new) →
             TicksAt self.old context.now interrupted old new }
         ensures same { self.new ≡ self.old }
     {
@@ -115,7 +117,24 @@ where
             return None;
         }
         let address = address_asked(context.ra, interrupted);
-        self.space.held_near(address, &mut self.near)
+        self.space.added_near(address, &mut self.near)
+    }
+
+    /// The module whose tables are asked for the frame at a state, `None` at the end of the stack.
+    #[inline(always)]
+    pub fn module_asked(
+        &mut self,
+        context: &Context,
+        interrupted: bool,
+    ) -> Option<&'s AddedModule<'t>>
+        ensures ends { IsNone result → frame_of self.old context.now interrupted ≡ Ok None }
+        ensures unsearched { (n : ℕ) → IsNone result →
+            TicksAt self.old context.now interrupted n n }
+        ensures asked { IfSome result (λ added_module.
+            IsAsked self.old context.now interrupted added_module.now) }
+        ensures same { self.new ≡ self.old }
+    {
+        self.holder_at(context, interrupted)
     }
 
     /// The frame at a state: what was found for the address asked, `None` at the end of the stack.
@@ -138,23 +157,73 @@ where
     {
         // Its regions are laid out, as the image's type says.
         let _ = self.image();
-        let Some(held) = self.holder_at(&state.context, state.signal) else {
+        let Some(added_module) = self.module_asked(&state.context, state.signal) else {
             return Ok(None);
         };
-        let address = state.address();
-        match &held.table {
-            Some(shared) => {
-                let table: &'s PreparedTable<'a> = shared.table();
-                elf::prepared_frame(table, address, steps)
-            }
-            None => frames::frame(&mut self.stack, address, &held.holder, place, rows, steps),
+        if added_module.is_prepared() {
+            self.prepared_frame(added_module, state, steps)
+        } else {
+            self.searched_frame(added_module, state, place, rows, steps)
         }
+    }
+
+    /// The frame at a state that lies in a module that is prepared: the index lends its row.
+    #[inline(always)]
+    pub fn prepared_frame<'f, L: Ledger>(
+        &self,
+        added_module: &'f AddedModule<'t>,
+        state: &Stepped,
+        steps: &mut Steps<L>,
+    ) -> Result<Option<FoundFrame<'f, 'a>>, DeliverError>
+        requires prepared { is_some added_module.now.table ≡ true }
+        requires asked { IsAsked self.now state.now.context state.now.signal added_module.now }
+        ensures frame { GivesFrameAt result
+            (frame_of self.now state.now.context state.now.signal) }
+        ensures ticks { TicksAt self.now state.now.context state.now.signal steps.old.number
+            steps.new.number }
+    {
+        // Its regions are laid out, as the image's type says.
+        let _ = self.image();
+        let Some(shared) = &added_module.table else {
+            unreachable!()
+        };
+        let table: &'f PreparedTable<'a> = shared.table();
+        elf::prepared_frame(table, state.address(), steps)
+    }
+
+    /// The frame at a state that lies in a module that isn't prepared. What is found is put into
+    /// `place`, and its row made in `rows`.
+    #[inline(always)]
+    pub fn searched_frame<'f, L: Ledger>(
+        &mut self,
+        added_module: &AddedModule<'t>,
+        state: &Stepped,
+        place: &'f mut Option<FDESearchResult<'a>>,
+        rows: &'f mut RowRoom<'a>,
+        steps: &mut Steps<L>,
+    ) -> Result<Option<FoundFrame<'f, 'a>>, DeliverError>
+        requires unprepared { is_some added_module.now.table ≡ false }
+        requires asked { IsAsked self.old state.now.context state.now.signal added_module.now }
+        ensures frame { GivesFrameAt result
+            (frame_of self.old state.now.context state.now.signal) }
+        ensures ticks { TicksAt self.old state.now.context state.now.signal steps.old.number
+            steps.new.number }
+        ensures same { self.new ≡ self.old }
+    {
+        frames::frame(
+            &mut self.stack,
+            state.address(),
+            &added_module.holder,
+            place,
+            rows,
+            steps,
+        )
     }
 
     /// Puts the caller of the frame at a state in the state's place. After a fault the state is as
     /// before.
     #[inline(always)]
-    pub fn leave(
+    pub fn step_to_caller(
         &mut self,
         state: &mut Stepped,
         frame: &FoundFrame<'_, 'a>,
@@ -165,7 +234,7 @@ where
         ensures same { self.new ≡ self.old }
     {
         let callee = state.context.copied();
-        let left = self.write_next(&callee, frame, state);
+        let left = self.write_caller_state(&callee, frame, state);
         if left.is_err() {
             state.context = callee;
         }
@@ -175,7 +244,7 @@ where
     /// Makes a copy of the state at a frame its caller's. After a fault the copy's registers are
     /// unspecified.
     #[inline(always)]
-    fn write_next(
+    fn write_caller_state(
         &mut self,
         callee: &Context,
         frame: &FoundFrame<'_, 'a>,
@@ -187,7 +256,7 @@ where
         ensures mark { OnErr result (next.new.signal ≡ next.old.signal) }
         ensures same { self.new ≡ self.old }
     {
-        frame.leave(&mut self.stack, callee, next)
+        frame.step_to_caller(&mut self.stack, callee, next)
     }
 }
 
@@ -214,16 +283,15 @@ where
     {
         // Its regions are laid out, as the image's type says.
         let _ = self.image();
-        let Some(held) = self.holder_at(&state.context, state.signal) else {
+        let Some(added_module) = self.module_asked(&state.context, state.signal) else {
             return Ok(false);
         };
-        let Some(shared) = &held.table else {
+        if !added_module.is_prepared() {
             return self.advance_in_room(state, steps);
-        };
-        let table: &'s PreparedTable<'a> = shared.table();
-        match elf::prepared_frame(table, state.address(), steps) {
+        }
+        match self.prepared_frame(added_module, state, steps) {
             Ok(Some(frame)) => {
-                self.leave(state, &frame)?;
+                self.step_to_caller(state, &frame)?;
                 Ok(true)
             }
             Ok(None) => Ok(false),
@@ -251,7 +319,7 @@ where
         let found = self.frame_at(state, &mut place, &mut rows, steps);
         match &found {
             Ok(Some(frame)) => {
-                self.leave(state, frame)?;
+                self.step_to_caller(state, frame)?;
                 Ok(true)
             }
             Ok(None) => Ok(false),
@@ -288,7 +356,7 @@ where
         Ok(None) => return Ok(None),
         Err(error) => return Err(*error),
     };
-    stepper.write_next(context, frame, &mut next)?;
+    stepper.write_caller_state(context, frame, &mut next)?;
     Ok(Some(next))
 }
 
@@ -309,10 +377,10 @@ fn exact_step<L: Ledger>(
     let _ = space.image();
     let own = space.over_own_image();
     let mut stepper = Stepper::over(&own, context.registers[RSP]);
-    let Some(held) = stepper.holder_at(context, interrupted) else {
+    let Some(added_module) = stepper.holder_at(context, interrupted) else {
         return Ok(None);
     };
-    let Some(shared) = &held.table else {
+    let Some(shared) = &added_module.table else {
         return step_in_room(&mut stepper, context, interrupted, steps);
     };
     let mut next = Stepped {
@@ -325,7 +393,7 @@ fn exact_step<L: Ledger>(
         Ok(None) => return Ok(None),
         Err(error) => return Err(*error),
     };
-    stepper.write_next(context, frame, &mut next)?;
+    stepper.write_caller_state(context, frame, &mut next)?;
     Ok(Some(next))
 }
 

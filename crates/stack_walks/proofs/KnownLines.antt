@@ -14,7 +14,7 @@ use Rattle.format_laws.proofs.Stopped.{stop_below}
 use Rattle.format_frames.specs.declared.machine.Stepped.{Stepped}
 use Rattle.unwind_arch.specs.declared.x86_64.Context.{Context}
 use Rattle.unwind_arch.specs.ContextViews.{columns_of}
-use Rattle.stack_steps.specs.declared.answers.DeliverError.{DeliverError}
+use Rattle.stack_steps.specs.declared.error.DeliverError.{DeliverError}
 use Rattle.stack_steps.specs.declared.space.Module.{Module}
 use Rattle.stack_steps.specs.Modules.{SpaceValue, AreApart, module_at}
 use Rattle.stack_steps.specs.SpaceViews.{formats_of}
@@ -26,12 +26,12 @@ use Rattle.stack_steps.proofs.FactSteps.{asked_at, facts_undone, signal_left}
 use Rattle.stack_steps.proofs.MetCalls.{format_undone, format_stopped}
 use Rattle.stack_steps.proofs.StepParts.{stepped_by, step_is}
 use Rattle.stack_walks.specs.Lines.{line_of}
-use Rattle.stack_walks.specs.Fronts.{reached_by, caller_from, start_state, EndsFor, ComesTo, front_uncovered}
+use Rattle.stack_walks.specs.WalkEnds.{reached_by, caller_from, start_state, EndsFor, ComesTo, front_uncovered}
 use Rattle.stack_walks.specs.Walking.{EachShows}
-use Rattle.stack_walks.specs.KnownWalks.{StartsKnownStack, IsBelow, StackRises, ShowStack, front_at, front_of_stack}
+use Rattle.stack_walks.specs.KnownWalks.{StartsKnownStack, IsBelow, StackRises, ShowStack, front_at, end_reason_of_stack}
 use Rattle.stack_walks.proofs.LineShows.{by_module}
-use Rattle.stack_walks.proofs.ChainFronts.{not_refused, unknown}
-use Rattle.stack_walks.proofs.FrontAnswers.{comes}
+use Rattle.stack_walks.proofs.ChainEnds.{not_refused, unknown}
+use Rattle.stack_walks.proofs.EndAnswers.{comes}
 
 -- A step answers a context that shows a state. The mark says whether that was interrupted where it stands, or stopped in a call.
 pub record GoesTo (marked : Bool) (result : Result (Option Stepped) DeliverError) (t : State) : Type 0 where
@@ -157,7 +157,7 @@ module _ (space : SpaceValue) where
 
     -- the last state that is reached, where there is room for all, is the outermost
     last_ends : (interrupted : Bool) (s : State) (callers : List State) (t : Stepped) (room : ℕ) (stack : IsKnownStack space interrupted s callers) → Shows (columns_of t.context) s → t.signal ≡ interrupted → length callers < room →
-        EndsFor (front_of_stack space interrupted s callers stack) space (reached_by (caller_from space) room t).state.context (reached_by (caller_from space) room t).state.signal
+        EndsFor (end_reason_of_stack space interrupted s callers stack) space (reached_by (caller_from space) room t).state.context (reached_by (caller_from space) room t).state.signal
     last_ends interrupted s [] t zero stack shows marked less = absurd (omega arith)
     last_ends interrupted s [] t (suc room) stack shows marked less =
         let ends : step_of space t.context t.signal ≡ Ok None = rw marked (stack_ends interrupted s t.context stack shows) in
@@ -177,8 +177,8 @@ module _ (space : SpaceValue) where
           (line.0, line.1, record { each = line.2; rise = stack_rises interrupted s callers is.stack })
 
       -- Why the walk ends.
-      pub known_comes : ComesTo (front_of_stack space interrupted s callers is.stack) space limit c interrupted
+      pub known_comes : ComesTo (end_reason_of_stack space interrupted s callers is.stack) space limit c interrupted
       known_comes =
           let line = known_line interrupted s callers c limit is.stack is.shows is.shorter in
-          comes (front_of_stack space interrupted s callers is.stack) space limit (start_state c interrupted) (not_refused (line_of space limit c interrupted) line.0 line.1)
+          comes (end_reason_of_stack space interrupted s callers is.stack) space limit (start_state c interrupted) (not_refused (line_of space limit c interrupted) line.0 line.1)
           (last_ends interrupted s callers (start_state c interrupted) limit is.stack is.shows refl is.shorter)

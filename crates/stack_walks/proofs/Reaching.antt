@@ -3,16 +3,16 @@ use Rattle.std.proofs.Common.{◌≡◌, ℕ, zero, suc, Bool, List, [], ◌∷�
 use Rattle.stack_steps.specs.declared.asking.FrameAction.{FrameAction}
 use Rattle.unwind_arch.specs.declared.x86_64.Context.{Context}
 use Rattle.format_frames.specs.declared.machine.Stepped.{Stepped}
-use Rattle.stack_steps.specs.declared.answers.DeliverError.{DeliverError}
+use Rattle.stack_steps.specs.declared.error.DeliverError.{DeliverError}
 use Rattle.stack_steps.specs.Growing.{advanced_to}
 use Rattle.stack_steps.specs.Modules.{SpaceValue}
 use Rattle.memory_image.specs.Results.{◌>>=◌, result_map}
 use Rattle.stack_steps.specs.Frames.{FrameAt}
 use Rattle.stack_steps.specs.Stepping.{frame_of, caller_by, caller_at, step_of}
 use Rattle.stack_walks.specs.Walking.{RoomValue}
-use Rattle.stack_walks.specs.Turns.{Pass, Turn, Ends, Stops, Goes, turn_in, turn_for}
-use Rattle.stack_walks.specs.TurnViews.{AreVisited}
-use Rattle.stack_walks.specs.Fronts.{Reached, reached_after, reached_by, caller_in, caller_from, caller_turned, turned_from, IsReached}
+use Rattle.stack_walks.specs.FrameVisits.{Pass, FrameVisit, Ends, Stops, Goes, visit_in, visit_for}
+use Rattle.stack_walks.specs.VisitViews.{AreVisited}
+use Rattle.stack_walks.specs.WalkEnds.{Reached, reached_after, reached_by, caller_in, caller_from, caller_turned, turned_from, IsReached}
 
 -- contexts that were met before
 abbrev pub met_before : List Context → Reached → Reached
@@ -41,16 +41,16 @@ module _ (next : Stepped → Option Stepped) (room n : ℕ) (s : Stepped) (front
 -- ---- what a turn comes to
 
 module _ (pass : Option Pass) (space : SpaceValue) (s : Stepped) where
-  pub turned_faults : (e : DeliverError) → turn_for pass space s.context s.signal ≡ Err e → turned_from pass space s ≡ None
+  pub turned_faults : (e : DeliverError) → visit_for pass space s.context s.signal ≡ Err e → turned_from pass space s ≡ None
   turned_faults e is = rw is refl
 
-  pub turned_ends : turn_for pass space s.context s.signal ≡ Ok Ends → turned_from pass space s ≡ None
+  pub turned_ends : visit_for pass space s.context s.signal ≡ Ok Ends → turned_from pass space s ≡ None
   turned_ends is = rw is refl
 
-  pub turned_stops : (action : FrameAction) (past : Context) → turn_for pass space s.context s.signal ≡ Ok (Stops action past) → turned_from pass space s ≡ None
+  pub turned_stops : (action : FrameAction) (past : Context) → visit_for pass space s.context s.signal ≡ Ok (Stops action past) → turned_from pass space s ≡ None
   turned_stops action past is = rw is refl
 
-  pub turned_goes : (t : Stepped) → turn_for pass space s.context s.signal ≡ Ok (Goes t) → turned_from pass space s ≡ Some t
+  pub turned_goes : (t : Stepped) → visit_for pass space s.context s.signal ≡ Ok (Goes t) → turned_from pass space s ≡ Some t
   turned_goes t is = rw is refl
 
 -- ---- what is left
@@ -73,41 +73,41 @@ reached_limit next b room s front due left none visited is =
 -- ---- a walk's turns are its steps
 
 pub turned_called : (space : SpaceValue) (s : Stepped) → turned_from None space s ≡ caller_from space s
-unfolding turn_for step_of
+unfolding visit_for step_of
 turned_called space s = go (frame_of space s.context s.signal)
   where
     called : (r : Result Stepped DeliverError) → caller_turned (result_map Goes r) ≡ caller_in (result_map Some r)
     called (Ok t) = refl
     called (Err e) = refl
 
-    go : (r : Result (Option FrameAt) DeliverError) → caller_turned (r >>= turn_in None space.image s.context s.signal) ≡ caller_in (r >>= caller_at space.image s.context)
+    go : (r : Result (Option FrameAt) DeliverError) → caller_turned (r >>= visit_in None space.image s.context s.signal) ≡ caller_in (r >>= caller_at space.image s.context)
     go (Ok None) = refl
     go (Ok (Some f)) = called (caller_by space.image s.context f)
     go (Err e) = refl
 
 -- what a walk meets, by a step
-abbrev pub turn_to : Option Stepped → Turn
+abbrev pub turn_to : Option Stepped → FrameVisit
 turn_to None = Ends
 turn_to (Some s) = Goes s
 
-turn_steps : (space : SpaceValue) (c : Context) (interrupted : Bool) → turn_for None space c interrupted ≡ result_map turn_to (step_of space c interrupted)
-unfolding turn_for step_of
-turn_steps space c interrupted = go (frame_of space c interrupted)
+visit_steps : (space : SpaceValue) (c : Context) (interrupted : Bool) → visit_for None space c interrupted ≡ result_map turn_to (step_of space c interrupted)
+unfolding visit_for step_of
+visit_steps space c interrupted = go (frame_of space c interrupted)
   where
     called : (r : Result Stepped DeliverError) → result_map Goes r ≡ result_map turn_to (result_map Some r)
     called (Ok t) = refl
     called (Err e) = refl
 
-    go : (r : Result (Option FrameAt) DeliverError) → (r >>= turn_in None space.image c interrupted) ≡ result_map turn_to (r >>= caller_at space.image c)
+    go : (r : Result (Option FrameAt) DeliverError) → (r >>= visit_in None space.image c interrupted) ≡ result_map turn_to (r >>= caller_at space.image c)
     go (Ok None) = refl
     go (Ok (Some f)) = called (caller_by space.image c f)
     go (Err e) = refl
 
 -- and by what a step in place answers
-pub turn_advanced : (space stepper : SpaceValue) (s next : Stepped) (r : Result Bool DeliverError) → stepper ≡ space → result_map (advanced_to next) r ≡ step_of stepper s.context s.signal →
-    turn_for None space s.context s.signal ≡ result_map turn_to (result_map (advanced_to next) r)
-turn_advanced space stepper s next r same steps =
-    turn_steps space s.context s.signal ∙ ap (result_map turn_to) (ap (λ (sp : SpaceValue). step_of sp s.context s.signal) (sym same) ∙ sym steps)
+pub visit_advanced : (space stepper : SpaceValue) (s next : Stepped) (r : Result Bool DeliverError) → stepper ≡ space → result_map (advanced_to next) r ≡ step_of stepper s.context s.signal →
+    visit_for None space s.context s.signal ≡ result_map turn_to (result_map (advanced_to next) r)
+visit_advanced space stepper s next r same steps =
+    visit_steps space s.context s.signal ∙ ap (result_map turn_to) (ap (λ (sp : SpaceValue). step_of sp s.context s.signal) (sym same) ∙ sym steps)
 
 -- the same next states lead as far
 pub same_reached : (f g : Stepped → Option Stepped) → ((s : Stepped) → f s ≡ g s) → (room : ℕ) (s : Stepped) → reached_by f room s ≡ reached_by g room s

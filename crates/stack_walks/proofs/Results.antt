@@ -2,8 +2,8 @@
 use Rattle.std.proofs.Common.{inl, inr, ◌≡◌, ◌≢◌, List, Result, Ok, Err, refl, sym, ap, ◌∙◌}
 use Rattle.std.specs.Prelude.{◌⊎◌, IsOk, IsOkAnd}
 use Rattle.unwind_arch.specs.declared.x86_64.Context.{Context}
-use Rattle.stack_steps.specs.declared.answers.DeliverError.{DeliverError}
-use Rattle.stack_steps.specs.declared.answers.DeliverError.TheVariants.{NoMemory}
+use Rattle.stack_steps.specs.declared.error.DeliverError.{DeliverError}
+use Rattle.stack_steps.specs.declared.error.DeliverError.TheVariants.{NoMemory}
 use Rattle.stack_walks.specs.Lines.{GivesUnlessNoMemory}
 use Rattle.stack_walks.specs.Walking.{RoomValue, IsWalked}
 

@@ -11,7 +11,7 @@ use Rattle.unwind_definitions.specs.Row.{covers_pc}
 use Rattle.unwind_definitions.specs.Scan.{fdes_of, first_covering, found_or, scan_from, scan}
 use Rattle.eh_frame.specs.Search.{Precede}
 use Rattle.eh_frame.specs.Listing.{Listing, upcoming, entry_in, after}
-use Rattle.stack_walks.specs.Fronts.{IsUnreadableAt}
+use Rattle.stack_walks.specs.WalkEnds.{IsUnreadableAt}
 
 -- ---- an answer is a fault, or none
 
@@ -40,32 +40,32 @@ module _ (bases : Bases) (table : Input) where
   one_next offset d e m n is also = ap next_of (sym is ∙ also)
 
   -- at most one entry is the first that can't be read
-  pub one_unread : (a from : ℕ) (before also : List Entry) (x y : ℕ) (e f : Fault) → Precede bases table a from before x → entry_at bases table x ≡ Err e →
-      Precede bases table a from also y → entry_at bases table y ≡ Err f → (x ≡ y) × (e ≡ f)
-  one_unread a from [] [] x y e f px ex py ey =
+  pub one_unread : (from : ℕ) (before also : List Entry) (x y : ℕ) (e f : Fault) → Precede bases table from before x → entry_at bases table x ≡ Err e →
+      Precede bases table from also y → entry_at bases table y ≡ Err f → (x ≡ y) × (e ≡ f)
+  one_unread from [] [] x y e f px ex py ey =
       let same : x ≡ y = sym px ∙ py in
       let fault : ◌≡◌ {A = Result (Option Found) Fault} (Err e) (Err f) = sym ex ∙ ap (entry_at bases table) same ∙ ey in
       (same, cc)
-  one_unread a from [] (d ∷ also) x y e f px ex py ey =
+  one_unread from [] (d ∷ also) x y e f px ex py ey =
       let bad : ◌≡◌ {A = Result (Option Found) Fault} (Err e) (ok_entry d py.0) = sym ex ∙ ap (entry_at bases table) (sym px) ∙ py.1 in absurd cc
-  one_unread a from (d ∷ before) [] x y e f px ex py ey =
+  one_unread from (d ∷ before) [] x y e f px ex py ey =
       let bad : ◌≡◌ {A = Result (Option Found) Fault} (Err f) (ok_entry d px.0) = sym ey ∙ ap (entry_at bases table) (sym py) ∙ px.1 in absurd cc
-  one_unread a from (d ∷ before) (b ∷ also) x y e f px ex py ey =
+  one_unread from (d ∷ before) (b ∷ also) x y e f px ex py ey =
       let same : py.0 ≡ px.0 = one_next from b d py.0 px.0 py.1 px.1 in
-      one_unread a px.0 before also x y e f px.2 ex (subst (λ (n : ℕ). Precede bases table a n also y) same py.2) ey
+      one_unread px.0 before also x y e f px.2 ex (subst (λ (n : ℕ). Precede bases table n also y) same py.2) ey
 
   -- nor where all can be read
-  pub none_unread : (a from : ℕ) (entries before : List Entry) (x : ℕ) (e : Fault) → AreEntries bases table from entries →
-      Precede bases table a from before x → entry_at bases table x ≡ Err e → ⊥
-  none_unread a from [] [] x e are px ex =
+  pub none_unread : (from : ℕ) (entries before : List Entry) (x : ℕ) (e : Fault) → AreEntries bases table from entries →
+      Precede bases table from before x → entry_at bases table x ≡ Err e → ⊥
+  none_unread from [] [] x e are px ex =
       let bad : ◌≡◌ {A = Result (Option Found) Fault} (Err e) (Ok None) = sym ex ∙ ap (entry_at bases table) (sym px) ∙ are in absurd cc
-  none_unread a from [] (d ∷ before) x e are px ex =
+  none_unread from [] (d ∷ before) x e are px ex =
       let bad : Ok None ≡ ok_entry d px.0 = sym are ∙ px.1 in absurd cc
-  none_unread a from (d ∷ entries) [] x e are px ex =
+  none_unread from (d ∷ entries) [] x e are px ex =
       let bad : ◌≡◌ {A = Result (Option Found) Fault} (Err e) (ok_entry d are.0) = sym ex ∙ ap (entry_at bases table) (sym px) ∙ are.1 in absurd cc
-  none_unread a from (d ∷ entries) (b ∷ before) x e are px ex =
+  none_unread from (d ∷ entries) (b ∷ before) x e are px ex =
       let same : px.0 ≡ are.0 = one_next from b d px.0 are.0 px.1 are.1 in
-      none_unread a are.0 entries before x e are.2 (subst (λ (n : ℕ). Precede bases table a n before x) same px.2) ex
+      none_unread are.0 entries before x e are.2 (subst (λ (n : ℕ). Precede bases table n before x) same px.2) ex
 
 -- ---- the way to it
 

@@ -8,9 +8,9 @@ use Rattle.unwind_arch.specs.ContextViews.{columns_of}
 use Rattle.stack_steps.specs.declared.space.Module.{Module}
 use Rattle.stack_steps.specs.Modules.{SpaceValue, module_at}
 use Rattle.stack_steps.specs.KnownStacks.{IsStackLink, is_by_signal, IsKnownStack}
-use Rattle.stack_walks.specs.declared.front.Front.{Front}
-use Rattle.stack_walks.specs.declared.front.Front.TheVariants.{Outermost}
-use Rattle.stack_walks.specs.Fronts.{front_uncovered}
+use Rattle.stack_walks.specs.declared.walk_end.EndReason.{EndReason}
+use Rattle.stack_walks.specs.declared.walk_end.EndReason.TheVariants.{Outermost}
+use Rattle.stack_walks.specs.WalkEnds.{front_uncovered}
 use Rattle.stack_walks.specs.Walking.{EachShows}
 
 -- A context shows the innermost state of such a stack, which has fewer callers than the limit. The mark says whether the context
@@ -37,11 +37,11 @@ module _ (space : SpaceValue) where
     pub rise : StackRises interrupted s callers stack
 
 -- Why a walk goes no further than a state: it returns to 0, or nothing covers the address asked.
-abbrev pub front_at : List Module → Bool → State → Front
+abbrev pub front_at : List Module → Bool → State → EndReason
 front_at modules interrupted s =
     if s.ra == 0 then Outermost else front_uncovered (module_at modules (address_asked interrupted s)) (address_asked interrupted s)
 
 -- at the outermost state of a stack, which may itself have been interrupted
-abbrev pub front_of_stack : (space : SpaceValue) (interrupted : Bool) (s : State) (callers : List State) → IsKnownStack space interrupted s callers → Front
-front_of_stack space interrupted s [] stack = front_at space.modules interrupted s
-front_of_stack space interrupted s (t ∷ callers) stack = front_of_stack space (is_by_signal space interrupted s t stack.0) t callers stack.1
+abbrev pub end_reason_of_stack : (space : SpaceValue) (interrupted : Bool) (s : State) (callers : List State) → IsKnownStack space interrupted s callers → EndReason
+end_reason_of_stack space interrupted s [] stack = front_at space.modules interrupted s
+end_reason_of_stack space interrupted s (t ∷ callers) stack = end_reason_of_stack space (is_by_signal space interrupted s t stack.0) t callers stack.1

@@ -1,8 +1,8 @@
 pub mod ContextsMet
-pub mod FrontSample
-pub mod Fronts
+pub mod WalkEndSample
+pub mod WalkEnds
 pub mod Lines
-pub mod TurnViews
-pub mod Turns
+pub mod VisitViews
+pub mod FrameVisits
 pub mod Walking
 pub mod KnownWalks

@@ -3,8 +3,8 @@ use Rattle.std.specs.Prelude.{◌≡◌, ◌⊎◌, ℕ, zero, suc, Bool, List, 
 use Rattle.memory_image.specs.Results.{result_map}
 use Rattle.unwind_arch.specs.declared.x86_64.Context.{Context}
 use Rattle.format_frames.specs.declared.machine.Stepped.{Stepped}
-use Rattle.stack_steps.specs.declared.answers.DeliverError.{DeliverError}
-use Rattle.stack_steps.specs.declared.answers.DeliverError.TheVariants.{NoMemory, FrameLimit}
+use Rattle.stack_steps.specs.declared.error.DeliverError.{DeliverError}
+use Rattle.stack_steps.specs.declared.error.DeliverError.TheVariants.{NoMemory, FrameLimit}
 use Rattle.stack_steps.specs.Modules.{SpaceValue}
 use Rattle.stack_steps.specs.Stepping.{step_of}
 

@@ -4,16 +4,16 @@
 //! Users take these by `stack_deliver`, which goes the same way for its passes.
 #![tactic(auto)]
 
-mod front;
-mod outward;
 mod room;
+mod unwind;
+mod walk_end;
 mod walking;
 
 pub use eh_frame::RowRoom;
-pub use front::{
-    Front, a_walk_ends_for_one_reason, each_reason_is_given, unframed_front, walk_front_into,
-    walk_front_over,
-};
-pub use outward::{Pass, Phase, Stop, mark_of, outwards, outwards_over};
 pub use room::{Room, Trail};
+pub use unwind::{Pass, Phase, Stop, mark_of, unwind_frames, unwind_frames_over};
+pub use walk_end::{
+    EndReason, a_walk_ends_for_one_reason, each_reason_is_given, unframed_end, walk_to_end_into,
+    walk_to_end_over,
+};
 pub use walking::{Visited, walk, walk_into, walk_with_rows};

@@ -5,15 +5,15 @@ ghost use Rattle.memory_image.specs.Image.{word_at};
 ghost use Rattle.unwind_definitions.specs.State.{State};
 ghost use Rattle.unwind_definitions.specs.Function.{Function};
 ghost use Rattle.unwind_definitions.specs.Chain.{Call};
-ghost use Rattle.stack_walks.specs.Fronts.{front_of};
+ghost use Rattle.stack_walks.specs.WalkEnds.{contexts_to_end};
 ghost use Rattle.stack_walks.specs.Lines.{GivesUnlessNoMemory, NeedsMore, line_of};
 ghost use Rattle.stack_steps.specs.Ticking.{RisesWithin};
 ghost use Rattle.stack_walks.specs.KnownWalks.{StartsKnownStack, ShowStack};
 ghost use Rattle.stack_walks.specs.Walking.{IsWalked, StartsChain, StepFails, ShowChain};
 ghost use Rattle.stack_steps.specs.Stopped.{StartsStopped};
 
-use crate::outward::outwards;
 use crate::room::Room;
+use crate::unwind::unwind_frames;
 use eh_frame::RowRoom;
 use memory_image::{Ledger, NoLedger, Steps};
 use stack_steps::{DeliverError, Space, Stepped};
@@ -47,7 +47,7 @@ pub fn walk_with_rows<'a, L: Ledger>(
     // A description is searched once at most at each state from the start outwards, up to the end of
     // the stack, to the first state whose step has a fault, or to the limit.
     ensures searches { RisesWithin space.now
-        (length (front_of space.now limit start.now interrupted))
+        (length (contexts_to_end space.now limit start.now interrupted))
         steps.old.number steps.new.number }
     ensures ticks { RisesWithin space.now limit steps.old.number steps.new.number }
 {
@@ -56,7 +56,7 @@ pub fn walk_with_rows<'a, L: Ledger>(
         context: *start,
         signal: interrupted,
     };
-    match outwards(None, space, &mut state, limit, room, rows, steps) {
+    match unwind_frames(None, space, &mut state, limit, room, rows, steps) {
         Ok(_) => Ok(()),
         Err(error) => {
             room.clear();
@@ -120,7 +120,7 @@ pub fn walk_into<L: Ledger>(
     // A description is searched once at most at each state from the start outwards, up to the end of
     // the stack, to the first state whose step has a fault, or to the limit.
     ensures searches { RisesWithin space.now
-        (length (front_of space.now limit start.now interrupted))
+        (length (contexts_to_end space.now limit start.now interrupted))
         steps.old.number steps.new.number }
     // As many searches as the limit allows states; none is counted where each module names a frame
     // table and none is prepared.

@@ -11,7 +11,7 @@ use Rattle.unwinding_frames.specs.FrameValue.{FrameValue}
 use Rattle.unwind_definitions.specs.LanguageSearch.{address_of_call}
 use Rattle.unwinding_frames.specs.Framed.{GivesFrame}
 use Rattle.unwinding_frames.specs.Seen.{FrameSeen, Finds, Shows, SeesFrame, in_column}
-use Rattle.unwinding_core.specs.Turns.{IsSeen}
+use Rattle.unwinding_core.specs.FrameVisits.{IsSeen}
 
 shown : (a : ℕ) (answer : Option FoundFde) (result : Result (Option FrameValue) StepError) → GivesFrame a answer result → (seen : Result (Option FrameSeen) StepFault) × Shows a answer seen × IsSeen result seen
 shown a None result e = (Ok None, refl, subst (λ (r : Result (Option FrameValue) StepError). IsSeen r (Ok None)) (sym e) refl)

@@ -3,9 +3,9 @@ use Rattle.std.proofs.Common.{◌≡◌, ℕ, zero, suc, Bool, true, false, cond
 use Rattle.unwinding_frames.specs.declared.abi.UnwindReasonCode.{UnwindReasonCode}
 use Rattle.unwinding_frames.specs.declared.abi.UnwindAction.{UnwindAction}
 use Rattle.unwinding_frames.specs.declared.abi.TheConstants.UnwindReasonCode.{CONTINUE_UNWIND}
-use Rattle.unwinding_frames.specs.Passes.{Marked, Stepping, Answering, LineEnd, Decides, Crowded, Turn, Ends, Goes, Line, IsAfter, IsLine, is_code, goes, turn_seen, turn_asked, by_personality, answer_of_personality}
+use Rattle.unwinding_frames.specs.Passes.{Marked, Stepping, Answering, LineEnd, Decides, Crowded, FrameVisit, Ends, Goes, Line, IsAfter, IsLine, is_code, goes, visit_seen, visit_asked, by_personality, answer_of_personality}
 
-abbrev without_state : {C E S : Type 0} → Turn C E S → Turn C E (Unit {0})
+abbrev without_state : {C E S : Type 0} → FrameVisit C E S → FrameVisit C E (Unit {0})
 without_state (Ends s end) = Ends tt end
 without_state (Goes s y) = Goes tt y
 
@@ -23,17 +23,17 @@ module _ {C F E S : Type 0} (step : Stepping C F E) (p : Answering C F E) (actio
   of_code s f x code left true = of_caller s (step.undoing.caller f left)
   of_code s f x code left false = refl
 
-  of_answer : (s : S) (f : F) (x : Marked C) (r : Result (UnwindReasonCode × C) E) → without_state (turn_asked step.undoing f x (s, r)) ≡ turn_asked step.undoing f x (tt, r)
+  of_answer : (s : S) (f : F) (x : Marked C) (r : Result (UnwindReasonCode × C) E) → without_state (visit_asked step.undoing f x (s, r)) ≡ visit_asked step.undoing f x (tt, r)
   of_answer s f x (Ok (code, left)) = of_code s f x code left (is_code code CONTINUE_UNWIND)
   of_answer s f x (Err e) = refl
 
-  of_turn : (s : S) (x : Marked C) (seen : Result (Option F) E) → without_state (turn_seen step.undoing (by_personality p actions) s x seen) ≡ turn_seen step.undoing (by_personality p actions) tt x seen
+  of_turn : (s : S) (x : Marked C) (seen : Result (Option F) E) → without_state (visit_seen step.undoing (by_personality p actions) s x seen) ≡ visit_seen step.undoing (by_personality p actions) tt x seen
   of_turn s x (Ok None) = refl
   of_turn s x (Ok (Some f)) = of_answer s f x (answer_of_personality p (actions x) f x)
   of_turn s x (Err e) = refl
 
   after : (room : ℕ) → ((s : S) (y : Marked C) (line : Line C E S) → IsLine step (by_personality p actions) room s y line → Plain step p actions room y line.end) →
-      (x : Marked C) (turn : Turn C E S) (line : Line C E S) → IsAfter (IsLine step (by_personality p actions) room) x turn line →
+      (x : Marked C) (turn : FrameVisit C E S) (line : Line C E S) → IsAfter (IsLine step (by_personality p actions) room) x turn line →
       (plain : Line C E (Unit {0})) × IsAfter (IsLine step (by_personality p actions) room) x (without_state turn) plain × (line.end ≡ plain.end)
   after room outer x (Ends s end) line is = (record { contexts = x ∷ []; end = end; state = tt }, refl, ap (λ (l : Line C E S). l.end) is)
   after room outer x (Goes s y) line is =
@@ -43,5 +43,5 @@ module _ {C F E S : Type 0} (step : Stepping C F E) (p : Answering C F E) (actio
   pub stateless : (room : ℕ) (s : S) (x : Marked C) (line : Line C E S) → IsLine step (by_personality p actions) room s x line → Plain step p actions room x line.end
   stateless zero s x line is = (record { contexts = []; end = Crowded; state = tt }, refl, ap (λ (l : Line C E S). l.end) is)
   stateless (suc room) s x line is =
-      let a = after room (λ t y rest line. stateless room t y rest line) x (turn_seen step.undoing (by_personality p actions) s x is.0) line is.2 in
-      (a.0, (is.0, is.1, subst (λ (turn : Turn C E (Unit {0})). IsAfter (IsLine step (by_personality p actions) room) x turn a.0) (of_turn s x is.0) a.1), a.2)
+      let a = after room (λ t y rest line. stateless room t y rest line) x (visit_seen step.undoing (by_personality p actions) s x is.0) line is.2 in
+      (a.0, (is.0, is.1, subst (λ (turn : FrameVisit C E (Unit {0})). IsAfter (IsLine step (by_personality p actions) room) x turn a.0) (of_turn s x is.0) a.1), a.2)

@@ -1,3 +1,3 @@
 pub mod Runs
 pub mod Stopping
-pub mod Turns
+pub mod FrameVisits

@@ -41,7 +41,7 @@ pub use abi::unwound::{Cause, Unwound};
 pub use fde_finders::{
     CustomFinder, EhFrameFinder, FDEFinder, FDESearchResult, FrameInfo, FrameInfoKind,
     GlobalFinder, GnuHdrFinder, Object, Phdr, PhdrFinder, PhdrObject, Registry,
-    SetCustomEhFrameFinderError, StaticFinder, find_named,
+    SetCustomEhFrameFinderError, StaticFinder, find_by_tables,
 };
 pub use unwinding_frames::{
     _Unwind_DeleteException, _Unwind_GetCFA, _Unwind_GetDataRelBase, _Unwind_GetGR, _Unwind_GetIP,

@@ -10,13 +10,13 @@ ghost use Rattle.frame_rows.specs.Rows.{IsRowOf};
 ghost use Rattle.unwinding_frames.specs.ContextSeen.{ContextSeen, frame_seen};
 ghost use Rattle.unwinding_frames.specs.ContextSeen.{language_place_of};
 ghost use Rattle.unwinding_frames.specs.Calling.{machine_of};
-ghost use Rattle.unwinding_frames.specs.Passes.{by_trace, run_out, turn_asked, turn_seen, IsTraced};
+ghost use Rattle.unwinding_frames.specs.Passes.{by_trace, run_out, visit_asked, visit_seen, IsTraced};
 ghost use Rattle.unwinding_frames.specs.Seen.{FrameSeen, SeesFrame, in_column, undoing, stepping};
 ghost use Rattle.unwinding_core.specs.Stopping.{TraceAnswer, tracing, start_of};
-ghost use Rattle.unwinding_core.specs.Turns.{turn_shown};
+ghost use Rattle.unwinding_core.specs.FrameVisits.{visit_shown};
 ghost use Rattle.unwinding_core.specs.Runs.{ended_shown};
 
-use crate::abi::passes::{Turn, frame_at, past_arguments};
+use crate::abi::passes::{FrameVisit, frame_at, past_arguments};
 use crate::abi::unwound::Cause;
 use fde_finders::FDEFinder;
 use memory_image::{Ledger, MemoryImage, Steps};
@@ -114,12 +114,12 @@ fn meet_frame<'a, M: Machine, T: Trace<M>>(
     hidden: &mut Option<u64>,
     context: &M::Context,
     signal: bool,
-) -> Result<Turn<M::Context>, StepError>
+) -> Result<FrameVisit<M::Context>, StepError>
     ensures { (run : RowInstructions) → IsRowOf frame.now.row run →
-        turn_shown M.Context.columns
+        visit_shown M.Context.columns
         (record { context = M.Context.columns context.now; signal = signal })
         (record { words = T.words trace.new; hidden = hidden.new }) result ≡
-        turn_asked (undoing (machine_of M.SP.0 M.RA.0) image.now)
+        visit_asked (undoing (machine_of M.SP.0 M.RA.0) image.now)
         (record { value = frame.now; run = run })
         (record { context = M.Context.columns context.now; signal = signal })
         (by_trace start_of (tracing T.traces image.now)
@@ -129,15 +129,15 @@ fn meet_frame<'a, M: Machine, T: Trace<M>>(
 {
     let code = goes_on(image, frame, trace, hidden, context, signal);
     if code != UnwindReasonCode::CONTINUE_UNWIND {
-        return Ok(Turn::Stop(code, *context, past_arguments(frame, context)));
+        return Ok(FrameVisit::Stop(code, *context, past_arguments(frame, context)));
     }
     let caller = frame.unwind(image, context)?;
-    Ok(Turn::Caller(caller, frame.is_signal_trampoline()))
+    Ok(FrameVisit::Caller(caller, frame.is_signal_trampoline()))
 }
 
 /// What a backtrace meets at a context: the row is read first, then the trace is asked, and the
 /// caller is made last.
-fn meet<M: Machine, F: FDEFinder, T: Trace<M>, L: Ledger>(
+fn visit_frame<M: Machine, F: FDEFinder, T: Trace<M>, L: Ledger>(
     image: &MemoryImage<'_>,
     finder: &F,
     trace: &mut T,
@@ -145,21 +145,21 @@ fn meet<M: Machine, F: FDEFinder, T: Trace<M>, L: Ledger>(
     context: &M::Context,
     signal: bool,
     steps: &mut Steps<L>,
-) -> Result<Turn<M::Context>, StepError>
+) -> Result<FrameVisit<M::Context>, StepError>
     ensures { (seen : Result (Option FrameSeen) StepFault) ×
         SeesFrame (F.finds finder.now) image.now (in_column M.RA.0 (M.Context.columns context.now))
         signal seen ×
-        (turn_shown M.Context.columns
+        (visit_shown M.Context.columns
         (record { context = M.Context.columns context.now; signal = signal })
         (record { words = T.words trace.new; hidden = hidden.new }) result ≡
-        turn_seen (undoing (machine_of M.SP.0 M.RA.0) image.now)
+        visit_seen (undoing (machine_of M.SP.0 M.RA.0) image.now)
         (by_trace start_of (tracing T.traces image.now))
         (record { words = T.words trace.old; hidden = hidden.old })
         (record { context = M.Context.columns context.now; signal = signal }) seen) }
 {
     match frame_at::<M, F, L>(image, finder, context, signal, steps) {
         Err(fault) => Err(fault),
-        Ok(None) => Ok(Turn::End),
+        Ok(None) => Ok(FrameVisit::End),
         Ok(Some(frame)) => meet_frame(image, &frame, trace, hidden, context, signal),
     }
 }
@@ -213,11 +213,11 @@ pub fn _Unwind_Backtrace<M: Machine, F: FDEFinder, T: Trace<M>, L: Ledger>(
     let mut signal = false;
     let mut hidden = hidden;
     for _ in 0..limit {
-        match meet(image, finder, trace, &mut hidden, &here, signal, steps) {
+        match visit_frame(image, finder, trace, &mut hidden, &here, signal, steps) {
             Err(fault) => return fatal(Some(Cause::from(fault))),
-            Ok(Turn::End) => return last_visit(image, trace, hidden, &here, signal),
-            Ok(Turn::Stop(..)) => return fatal(None),
-            Ok(Turn::Caller(next, next_signal)) => {
+            Ok(FrameVisit::End) => return last_visit(image, trace, hidden, &here, signal),
+            Ok(FrameVisit::Stop(..)) => return fatal(None),
+            Ok(FrameVisit::Caller(next, next_signal)) => {
                 here = next;
                 signal = next_signal;
             }

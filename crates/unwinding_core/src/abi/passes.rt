@@ -9,15 +9,15 @@ ghost use Rattle.unwind_definitions.specs.Caller.{Columns, StepFault};
 ghost use Rattle.frame_rows.specs.Rows.{IsRowOf};
 ghost use Rattle.unwinding_frames.specs.Calling.{machine_of};
 ghost use Rattle.unwinding_frames.specs.Passes.{Line, IsLine, frame_mark, by_force, without_mark};
-ghost use Rattle.unwinding_frames.specs.Passes.{turn_asked, turn_seen};
+ghost use Rattle.unwinding_frames.specs.Passes.{visit_asked, visit_seen};
 ghost use Rattle.unwinding_frames.specs.Passes.{answer_of_personality};
 ghost use Rattle.unwinding_frames.specs.Seen.{FrameSeen, SeesFrame, in_column, past_in_column};
 ghost use Rattle.unwinding_frames.specs.Seen.{undoing, stepping, answering};
 ghost use Rattle.unwinding_frames.specs.LanguageViews.{answer_seen};
 ghost use Rattle.unwinding_frames.specs.ContextSeen.{frame_seen};
 ghost use Rattle.unwinding_core.specs.Stopping.{stopping};
-ghost use Rattle.unwinding_core.specs.Turns.{IsSeen, thrown_of, actions_in, answer_shown, asks_in};
-ghost use Rattle.unwinding_core.specs.Turns.{turn_shown, end_shown};
+ghost use Rattle.unwinding_core.specs.FrameVisits.{IsSeen, thrown_of, actions_in, answer_shown, asks_in};
+ghost use Rattle.unwinding_core.specs.FrameVisits.{visit_shown, end_shown};
 
 use crate::abi::stop::Stop;
 use eh_frame::RegisterMap;
@@ -56,7 +56,7 @@ pub(crate) struct Answer<C> {
 
 /// What a pass meets at a context.
 #[derive(Clone, Copy)]
-pub(crate) enum Turn<C> {
+pub(crate) enum FrameVisit<C> {
     /// The end of the stack.
     End,
     /// An answer other than to go on: it, the context that is left, and that past the frame's
@@ -256,12 +256,12 @@ fn meet_frame<'a, M: Machine, P: Personality<M>, T: Stop<M>>(
     call: Call,
     context: &M::Context,
     signal: bool,
-) -> Result<Turn<M::Context>, StepError>
+) -> Result<FrameVisit<M::Context>, StepError>
     ensures { (run : RowInstructions) → IsRowOf frame.now.row run →
-        turn_shown M.Context.columns
+        visit_shown M.Context.columns
         (record { context = M.Context.columns context.now; signal = signal })
         (T.words stop.new) result ≡
-        turn_asked (undoing (machine_of M.SP.0 M.RA.0) image.now)
+        visit_asked (undoing (machine_of M.SP.0 M.RA.0) image.now)
         (record { value = frame.now; run = run })
         (record { context = M.Context.columns context.now; signal = signal })
         (asks_in call.phase (in_column M.SP.0)
@@ -273,15 +273,15 @@ fn meet_frame<'a, M: Machine, P: Personality<M>, T: Stop<M>>(
     let answer = frame_answer(image, frame, personality, stop, call, context, signal)?;
     if answer.code != UnwindReasonCode::CONTINUE_UNWIND {
         let past = past_arguments(frame, &answer.left);
-        return Ok(Turn::Stop(answer.code, answer.left, past));
+        return Ok(FrameVisit::Stop(answer.code, answer.left, past));
     }
     let caller = frame.unwind(image, &answer.left)?;
-    Ok(Turn::Caller(caller, frame.is_signal_trampoline()))
+    Ok(FrameVisit::Caller(caller, frame.is_signal_trampoline()))
 }
 
 /// What a pass meets at a context: the row is read first, then what names the personality, then
 /// there are the answers, and the caller is made last.
-fn meet<M: Machine, F: FDEFinder, P: Personality<M>, T: Stop<M>, L: Ledger>(
+fn visit_frame<M: Machine, F: FDEFinder, P: Personality<M>, T: Stop<M>, L: Ledger>(
     image: &MemoryImage<'_>,
     finder: &F,
     personality: &P,
@@ -290,14 +290,14 @@ fn meet<M: Machine, F: FDEFinder, P: Personality<M>, T: Stop<M>, L: Ledger>(
     context: &M::Context,
     signal: bool,
     steps: &mut Steps<L>,
-) -> Result<Turn<M::Context>, StepError>
+) -> Result<FrameVisit<M::Context>, StepError>
     ensures { (seen : Result (Option FrameSeen) StepFault) ×
         SeesFrame (F.finds finder.now) image.now (in_column M.RA.0 (M.Context.columns context.now))
         signal seen ×
-        (turn_shown M.Context.columns
+        (visit_shown M.Context.columns
         (record { context = M.Context.columns context.now; signal = signal })
         (T.words stop.new) result ≡
-        turn_seen (undoing (machine_of M.SP.0 M.RA.0) image.now)
+        visit_seen (undoing (machine_of M.SP.0 M.RA.0) image.now)
         (asks_in call.phase (in_column M.SP.0)
         (answering (P.answers personality.now) image.now (thrown_of call))
         (stopping T.stops image.now (thrown_of call)))
@@ -306,7 +306,7 @@ fn meet<M: Machine, F: FDEFinder, P: Personality<M>, T: Stop<M>, L: Ledger>(
 {
     match frame_at::<M, F, L>(image, finder, context, signal, steps) {
         Err(fault) => Err(fault),
-        Ok(None) => Ok(Turn::End),
+        Ok(None) => Ok(FrameVisit::End),
         Ok(Some(frame)) => meet_frame(image, &frame, personality, stop, call, context, signal),
     }
 }
@@ -333,7 +333,7 @@ pub(crate) fn pass<M: Machine, F: FDEFinder, P: Personality<M>, T: Stop<M>, L: L
     let mut context = *start;
     let mut signal = false;
     for _ in 0..limit {
-        match meet(
+        match visit_frame(
             image,
             finder,
             personality,
@@ -344,11 +344,11 @@ pub(crate) fn pass<M: Machine, F: FDEFinder, P: Personality<M>, T: Stop<M>, L: L
             steps,
         ) {
             Err(fault) => return LineEnd::Failed(fault),
-            Ok(Turn::End) => return LineEnd::RanOut(context, signal),
-            Ok(Turn::Stop(code, left, past)) => {
+            Ok(FrameVisit::End) => return LineEnd::RanOut(context, signal),
+            Ok(FrameVisit::Stop(code, left, past)) => {
                 return LineEnd::Decided(context, signal, code, left, past);
             }
-            Ok(Turn::Caller(next, next_signal)) => {
+            Ok(FrameVisit::Caller(next, next_signal)) => {
                 context = next;
                 signal = next_signal;
             }

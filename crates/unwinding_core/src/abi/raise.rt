@@ -11,7 +11,7 @@ ghost use Rattle.unwinding_frames.specs.Passes.{RanOut, Gives};
 ghost use Rattle.unwinding_core.specs.Runs.{thrown_by, cause_shown, unwound_shown, IsUntaken};
 ghost use Rattle.unwinding_frames.specs.Seen.{in_column, stepping, answering};
 ghost use Rattle.unwinding_core.specs.Stopping.{stopping};
-ghost use Rattle.unwinding_core.specs.Turns.{thrown_of, end_shown};
+ghost use Rattle.unwinding_core.specs.FrameVisits.{thrown_of, end_shown};
 
 use crate::abi::passes::{Call, LineEnd, Phase, mark, pass, stop_answer};
 use crate::abi::stop::{NoStop, Stop};

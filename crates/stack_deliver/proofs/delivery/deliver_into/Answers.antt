@@ -1,7 +1,7 @@
 use Rattle.std.proofs.Common.{◌≡◌, subst}
 use Rattle.stack_steps.specs.Languages.{rust_alone}
 use Rattle.stack_deliver.proofs.Over.{delivered_over, met_over}
-use Rattle.stack_steps.specs.declared.answers.DeliverError.TheVariants.{NoMemory, Unmapped}
+use Rattle.stack_steps.specs.declared.error.DeliverError.TheVariants.{NoMemory, Unmapped}
 use Rattle.stack_deliver.specs.Causes.{EndsBy}
 use Rattle.stack_deliver.specs.StackDelivery.{DeliveryValue}
 use Rattle.stack_deliver.specs.Delivering.{ShowsDelivery}

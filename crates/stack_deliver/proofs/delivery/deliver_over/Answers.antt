@@ -1,5 +1,5 @@
 use Rattle.stack_steps.specs.Languages.{rust_alone}
-use Rattle.stack_steps.specs.declared.answers.DeliverError.TheVariants.{NoMemory}
+use Rattle.stack_steps.specs.declared.error.DeliverError.TheVariants.{NoMemory}
 use Rattle.stack_deliver.specs.StackDelivery.{DeliveryValue}
 use Rattle.stack_deliver.specs.KnownDeliveries.{ShowsKnownDelivery}
 use Rattle.stack_deliver.proofs.DeliverFaults.{delivery_memory}

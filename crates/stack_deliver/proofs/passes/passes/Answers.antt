@@ -1,7 +1,7 @@
 use Rattle.std.proofs.Common.{◌≡◌, ◌+◌, ◌-◌, ◌++◌, ◌∷◌, [], ℕ, suc, length, false, Some, Ok, refl, sym, ap, subst, ◌∙◌, arith, length-append}
 use Rattle.std.proofs.lemmas.Result.{err_from_is_err_and}
 use Rattle.stack_steps.specs.Languages.{languages_of}
-use Rattle.stack_walks.specs.Turns.{cleaning}
+use Rattle.stack_walks.specs.FrameVisits.{cleaning}
 use Rattle.memory_image.specs.Results.{result_map}
 use Rattle.stack_deliver.specs.Passes.{passes_of, cleanup_at, ending_at, fatal}
 use Rattle.stack_walks.specs.ContextsMet.{contexts_met}
@@ -25,12 +25,12 @@ pub returns-in-Installed-clause-exact : goal.returns-in-Installed-clause-exact
 returns-in-Installed-clause-exact g c =
     rw (c.in_ok-end.ensures.stays, c.installed.ensures) (passes_finish (languages_of c.args.languages.now) c.args.stepper.now c.args.exception c.args.kept c.args.resumes.now c.args.limit c.loop-end.room.trail c.loop-end.state.context _ _ (ending_at c.cleanup.new.state.context) c.loop-end.invariant.passes (sym (rw (c.loop-end.invariant.same, c.in-Installed.is) at c.in_ok-end.ensures.exact)))
 
-pub returns-in_err-resume-in-Elsewhere-clause-exact : goal.returns-in_err-resume-in-Elsewhere-clause-exact
-returns-in_err-resume-in-Elsewhere-clause-exact g c =
-    let p = err_from_is_err_and c.from_residual-in_err-resume-in-Elsewhere.result c.from_residual-in_err-resume-in-Elsewhere.ensures.1 in
+pub returns-in_err-resume-in-Cleanup-clause-exact : goal.returns-in_err-resume-in-Cleanup-clause-exact
+returns-in_err-resume-in-Cleanup-clause-exact g c =
+    let p = err_from_is_err_and c.from_residual-in_err-resume-in-Cleanup.result c.from_residual-in_err-resume-in-Cleanup.ensures.1 in
     let front = c.loop-end.room.trail in
-    rw (p.1, p.2) (passes_refused (languages_of c.args.languages.now) c.args.stepper.now c.args.exception c.args.kept c.args.resumes.now c.args.limit front c.loop-end.state.context _ _ c.in-Elsewhere.pad c.cleanup.new.state.context (result_map (λ _. c.resume.new.context) c.resume.result) c.in_err-resume-in-Elsewhere.field-0.0 c.loop-end.invariant.passes
-    (sym (rw (c.loop-end.invariant.same, c.in-Elsewhere.is) at c.in_ok-end.ensures.exact)) (λ none. ap (result_map (λ _. c.resume.new.context)) (c.resume.ensures.full (rw c.in_ok-end.ensures.stays (omega (arith, none)))), λ some. c.resume.ensures.resumed (rw c.in_ok-end.ensures.stays (omega (arith, some)))) (ap (result_map (λ _. c.resume.new.context)) c.in_err-resume-in-Elsewhere.was))
+    rw (p.1, p.2) (passes_refused (languages_of c.args.languages.now) c.args.stepper.now c.args.exception c.args.kept c.args.resumes.now c.args.limit front c.loop-end.state.context _ _ c.in-Cleanup.pad c.cleanup.new.state.context (result_map (λ _. c.resume.new.context) c.resume.result) c.in_err-resume-in-Cleanup.field-0.0 c.loop-end.invariant.passes
+    (sym (rw (c.loop-end.invariant.same, c.in-Cleanup.is) at c.in_ok-end.ensures.exact)) (λ none. ap (result_map (λ _. c.resume.new.context)) (c.resume.ensures.full (rw c.in_ok-end.ensures.stays (omega (arith, none)))), λ some. c.resume.ensures.resumed (rw c.in_ok-end.ensures.stays (omega (arith, some)))) (ap (result_map (λ _. c.resume.new.context)) c.in_err-resume-in-Cleanup.was))
 
 pub loop-end-init : goal.loop-end-init
 loop-end-init g c =
@@ -47,18 +47,18 @@ loop-end-init g c =
 pub loop-end-preserved : goal.loop-end-preserved
 loop-end-preserved g c =
     let front = c.loop-end.room.trail in
-    let ran = cleanup_at c.in-Elsewhere.pad c.cleanup.new.state.context in
+    let ran = cleanup_at c.in-Cleanup.pad c.cleanup.new.state.context in
     let after = (result_map (λ _. c.resume.new.context) c.resume.result) in
-    let fine : after ≡ Ok c.resume.new.context = ap (result_map (λ _. c.resume.new.context)) c.in_ok-resume-in-Elsewhere.was in
-    let goes = (sym (rw (c.loop-end.invariant.same, c.in-Elsewhere.is) at c.in_ok-end.ensures.exact)) in
-    let r = passes_go (languages_of c.args.languages.now) c.args.stepper.now c.args.exception c.args.kept c.args.resumes.now c.args.limit front c.loop-end.state.context _ _ c.in-Elsewhere.pad c.cleanup.new.state.context after c.resume.new.context c.loop-end.invariant.passes
+    let fine : after ≡ Ok c.resume.new.context = ap (result_map (λ _. c.resume.new.context)) c.in_ok-resume-in-Cleanup.was in
+    let goes = (sym (rw (c.loop-end.invariant.same, c.in-Cleanup.is) at c.in_ok-end.ensures.exact)) in
+    let r = passes_go (languages_of c.args.languages.now) c.args.stepper.now c.args.exception c.args.kept c.args.resumes.now c.args.limit front c.loop-end.state.context _ _ c.in-Cleanup.pad c.cleanup.new.state.context after c.resume.new.context c.loop-end.invariant.passes
     goes (λ none. ap (result_map (λ _. c.resume.new.context)) (c.resume.ensures.full (rw c.in_ok-end.ensures.stays (omega (arith, none)))), λ some. c.resume.ensures.resumed (rw c.in_ok-end.ensures.stays (omega (arith, some)))) fine in
     let places : c.args.limit - length front ≡ suc r.0 = r.1 in
     let longer : length (front ++ ran ∷ []) ≡ length front + 1 = length-append front (ran ∷ []) in
     let met = c.loop-end.invariant.ticks in
     let one_pass : ℕ = contexts_met (Some (cleaning (languages_of c.args.languages.now))) c.args.stepper.now c.args.limit c.loop-end.state.context false in
     let left : r.0 ≡ c.args.limit - length (front ++ ran ∷ []) = omega arith in
-    rw (c.in_ok-resume-in-Elsewhere.ensures.trail, c.in_ok-end.ensures.stays) record {
+    rw (c.in_ok-resume-in-Cleanup.ensures.trail, c.in_ok-end.ensures.stays) record {
       passes = subst (λ (n : ℕ). with_cleanups (front ++ ran ∷ []) (passes_of (languages_of c.args.languages.now) c.args.stepper.now c.args.exception c.args.kept c.args.resumes.now c.args.limit n c.resume.new.context) ≡ passes_of (languages_of c.args.languages.now) c.args.stepper.now c.args.exception c.args.kept c.args.resumes.now c.args.limit c.args.limit c.args.start.now) left r.2;
       full = omega arith;
       visited = c.loop-end.invariant.visited;
@@ -68,7 +68,7 @@ loop-end-preserved g c =
         met.0 + one_pass,
         rises_then c.args.stepper.now met.0 one_pass _ _ _ met.1 (rw c.loop-end.invariant.same at c.in_ok-end.ensures.ticks),
         ap (λ (n : ℕ). (met.0 + one_pass) + met_in_passes (languages_of c.args.languages.now) c.args.stepper.now c.args.exception c.args.kept c.args.resumes.now c.args.limit n c.resume.new.context) (sym left)
-            ∙ next_met (languages_of c.args.languages.now) c.args.stepper.now c.args.exception c.args.kept c.args.resumes.now c.args.limit _ r.0 c.in-Elsewhere.pad met.0 _ c.loop-end.state.context c.cleanup.new.state.context c.resume.new.context after
+            ∙ next_met (languages_of c.args.languages.now) c.args.stepper.now c.args.exception c.args.kept c.args.resumes.now c.args.limit _ r.0 c.in-Cleanup.pad met.0 _ c.loop-end.state.context c.cleanup.new.state.context c.resume.new.context after
             goes places (λ some. c.resume.ensures.resumed (rw c.in_ok-end.ensures.stays (omega (arith, some)))) fine met.2,
       );
     }
@@ -88,7 +88,7 @@ returns-in-Installed-clause-ticks g c =
     let met = c.loop-end.invariant.ticks in
     last_met (languages_of c.args.languages.now) c.args.stepper.now c.args.exception c.args.kept c.args.resumes.now c.args.limit _ met.0 _ _ _ _ c.loop-end.state.context met.2 met.1 (rw c.loop-end.invariant.same at c.in_ok-end.ensures.ticks)
 
-pub returns-in_err-resume-in-Elsewhere-clause-ticks : goal.returns-in_err-resume-in-Elsewhere-clause-ticks
-returns-in_err-resume-in-Elsewhere-clause-ticks g c =
+pub returns-in_err-resume-in-Cleanup-clause-ticks : goal.returns-in_err-resume-in-Cleanup-clause-ticks
+returns-in_err-resume-in-Cleanup-clause-ticks g c =
     let met = c.loop-end.invariant.ticks in
     last_met (languages_of c.args.languages.now) c.args.stepper.now c.args.exception c.args.kept c.args.resumes.now c.args.limit _ met.0 _ _ _ _ c.loop-end.state.context met.2 met.1 (rw c.loop-end.invariant.same at c.in_ok-end.ensures.ticks)

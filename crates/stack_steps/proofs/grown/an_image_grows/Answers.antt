@@ -7,5 +7,5 @@ pub returns-clause-grows : goal.returns-clause-grows
 returns-clause-grows c a some = go (holds table_span a) refl
   where
     go : (b : Bool) → holds table_span a ≡ b → table_at grown_image a ≡ table_at table_image a
-    go true held = rw held refl
-    go false held = absurd (some (rw held refl))
+    go true added_module = rw added_module refl
+    go false added_module = absurd (some (rw added_module refl))

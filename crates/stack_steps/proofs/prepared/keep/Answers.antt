@@ -4,7 +4,7 @@ use Rattle.std.specs.Prelude.{is_some}
 use Rattle.std.specs.List.{count_by}
 use Rattle.std.specs.Vec.Iter.{into_iter_items}
 use Rattle.stack_steps.specs.declared.prepared.PreparedTable.{PreparedTable}
-use Rattle.stack_steps.specs.Held.{with_tables}
+use Rattle.stack_steps.specs.AddedModule.{with_tables}
 use Rattle.stack_steps.proofs.Making.{kept_by, none_kept, none_of, not_past, no_more_by, one_more, shorter, skips_by}
 use Rattle.stack_steps.proofs.prepared.keep.Goals as goal
 use Rattle.stack_steps.proofs.prepared.keep.Goals.{then-is_some, else-is_some}

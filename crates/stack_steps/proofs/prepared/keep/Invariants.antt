@@ -2,7 +2,7 @@ use Rattle.std.proofs.Common.{◌≡◌, ◌++◌, length}
 use Rattle.std.specs.Prelude.{is_some}
 use Rattle.std.specs.List.{count_by}
 use Rattle.std.specs.Vec.Iter.{into_iter_items, into_iter_len}
-use Rattle.stack_steps.specs.Held.{with_tables}
+use Rattle.stack_steps.specs.AddedModule.{with_tables}
 use Rattle.stack_steps.proofs.prepared.keep.Given as goal
 
 abbrev pub invariant-loop-table : goal.invariant-loop-table

@@ -1,6 +1,6 @@
 use Rattle.std.proofs.Common.{List, ◌∷◌, true, false, subst}
 use Rattle.unwind_arch.specs.declared.x86_64.Context.{Context}
-use Rattle.stack_steps.specs.declared.answers.DeliverError.TheVariants.{NoMemory, FrameLimit, Unmapped}
+use Rattle.stack_steps.specs.declared.error.DeliverError.TheVariants.{NoMemory, FrameLimit, Unmapped}
 use Rattle.stack_walks.specs.Lines.{line_of}
 use Rattle.stack_walks.specs.Walking.{IsWalked, ShowChain}
 use Rattle.stack_walks.proofs.LineAnswers.{line_limit, limit_line, line_fault, fault_line, line_unmapped, line_memory}

@@ -1,31 +1,31 @@
 use Rattle.std.proofs.Common.{None}
-use Rattle.stack_walks.specs.Turns.{line_for}
+use Rattle.stack_walks.specs.FrameVisits.{line_for}
 use Rattle.stack_walks.specs.Lines.{line_of}
 use Rattle.stack_steps.proofs.Counted.{rises_up_to, rises_to}
-use Rattle.stack_walks.proofs.TurnLines.{walk_line, walked_by}
-use Rattle.stack_walks.proofs.TurnCounts.{few_met, walk_met}
+use Rattle.stack_walks.proofs.VisitLines.{walk_line, walked_by}
+use Rattle.stack_walks.proofs.VisitCounts.{few_met, walk_met}
 use Rattle.stack_walks.proofs.walking.walk_with_rows.Goals as goal
 
 pub returns-in-Ok-clause-exact : goal.returns-in-Ok-clause-exact
 returns-in-Ok-clause-exact g c =
     rw c.in-Ok.is at
-    (walked_by c.outwards.result c.outwards.new.room c.outwards.new.state (line_for None c.args.space.now c.args.limit c.args.start.now c.args.interrupted) (line_of c.args.space.now c.args.limit c.args.start.now c.args.interrupted) c.outwards.ensures.exact
+    (walked_by c.unwind_frames.result c.unwind_frames.new.room c.unwind_frames.new.state (line_for None c.args.space.now c.args.limit c.args.start.now c.args.interrupted) (line_of c.args.space.now c.args.limit c.args.start.now c.args.interrupted) c.unwind_frames.ensures.exact
     (walk_line c.args.space.now c.args.limit c.args.start.now c.args.interrupted))
 
 pub returns-in-Err-clause-exact : goal.returns-in-Err-clause-exact
 returns-in-Err-clause-exact g c =
     rw c.in-Err.is at
-    (walked_by c.outwards.result c.outwards.new.room c.outwards.new.state (line_for None c.args.space.now c.args.limit c.args.start.now c.args.interrupted) (line_of c.args.space.now c.args.limit c.args.start.now c.args.interrupted) c.outwards.ensures.exact
+    (walked_by c.unwind_frames.result c.unwind_frames.new.room c.unwind_frames.new.state (line_for None c.args.space.now c.args.limit c.args.start.now c.args.interrupted) (line_of c.args.space.now c.args.limit c.args.start.now c.args.interrupted) c.unwind_frames.ensures.exact
     (walk_line c.args.space.now c.args.limit c.args.start.now c.args.interrupted))
 
 pub returns-in-Ok-clause-ticks : goal.returns-in-Ok-clause-ticks
-returns-in-Ok-clause-ticks g c = rises_up_to c.args.space.now _ c.args.limit _ _ (few_met None c.args.space.now c.args.limit c.args.start.now c.args.interrupted) c.outwards.ensures.ticks
+returns-in-Ok-clause-ticks g c = rises_up_to c.args.space.now _ c.args.limit _ _ (few_met None c.args.space.now c.args.limit c.args.start.now c.args.interrupted) c.unwind_frames.ensures.ticks
 
 pub returns-in-Err-clause-ticks : goal.returns-in-Err-clause-ticks
-returns-in-Err-clause-ticks g c = rises_up_to c.args.space.now _ c.args.limit _ _ (few_met None c.args.space.now c.args.limit c.args.start.now c.args.interrupted) c.outwards.ensures.ticks
+returns-in-Err-clause-ticks g c = rises_up_to c.args.space.now _ c.args.limit _ _ (few_met None c.args.space.now c.args.limit c.args.start.now c.args.interrupted) c.unwind_frames.ensures.ticks
 
 pub returns-in-Ok-clause-searches : goal.returns-in-Ok-clause-searches
-returns-in-Ok-clause-searches g c = rises_to c.args.space.now _ _ _ _ (walk_met c.args.space.now c.args.limit c.args.start.now c.args.interrupted) c.outwards.ensures.ticks
+returns-in-Ok-clause-searches g c = rises_to c.args.space.now _ _ _ _ (walk_met c.args.space.now c.args.limit c.args.start.now c.args.interrupted) c.unwind_frames.ensures.ticks
 
 pub returns-in-Err-clause-searches : goal.returns-in-Err-clause-searches
-returns-in-Err-clause-searches g c = rises_to c.args.space.now _ _ _ _ (walk_met c.args.space.now c.args.limit c.args.start.now c.args.interrupted) c.outwards.ensures.ticks
+returns-in-Err-clause-searches g c = rises_to c.args.space.now _ _ _ _ (walk_met c.args.space.now c.args.limit c.args.start.now c.args.interrupted) c.unwind_frames.ensures.ticks

@@ -1,8 +1,8 @@
 use Rattle.std.proofs.Common.{◌≡◌, ◌++◌, List, length, map, take, drop, sym, ap, subst, ◌∙◌, arith}
 use Rattle.memory_image.specs.Image.{Span}
-use Rattle.stack_steps.specs.declared.space.Held.{Held}
+use Rattle.stack_steps.specs.declared.space.AddedModule.{AddedModule}
 use Rattle.stack_steps.specs.declared.space.Module.{Module}
-use Rattle.stack_steps.specs.Held.{IsSpace, added_of, with_tables}
+use Rattle.stack_steps.specs.AddedModule.{IsSpace, added_of, with_tables}
 use Rattle.stack_steps.specs.Modules.{Added, SpaceValue, modules_in}
 use Rattle.stack_steps.specs.Preparing.{Prepares, with_indexes}
 use Rattle.stack_steps.proofs.Making.{added_made, all_replaced, count_made, index_made, length_kept, made_few, made_length, made_make, space_made}
@@ -16,7 +16,7 @@ keep-count-requires-clause-each c =
     let same = c.deref_mut.ensures.value in
     let was = c.deref.ensures.value in
     let n = made_length c.self.inside.image c.self.inside.left c.in_ok-made.left c.deref.result.now c.in_ok-made.made.items c.in_ok-made.ensures in
-    n ∙ ap (λ (l : List Held). length l) (was ∙ sym same)
+    n ∙ ap (λ (l : List AddedModule). length l) (was ∙ sym same)
 
 pub keep-count-requires-clause-few : goal.keep-count-requires-clause-few
 keep-count-requires-clause-few c =
@@ -31,13 +31,13 @@ invariant_of-self c =
     let was : c.deref.result.now ≡ hs = c.deref.ensures.value in
     let same : c.deref_mut.result.now ≡ hs = c.deref_mut.ensures.value in
     let are = rw was at c.in_ok-made.ensures in
-    let new : c.keep-count.new.added ≡ with_tables hs made = c.keep-count.ensures.tables ∙ ap (λ (l : List Held). with_tables l made) same in
+    let new : c.keep-count.new.added ≡ with_tables hs made = c.keep-count.ensures.tables ∙ ap (λ (l : List AddedModule). with_tables l made) same in
     let n = length_kept hs made in
     let len = c.deref_mut.ensures.len in
-    let all = ap (λ (l : List Held). length l) new in
-    let full = ap (λ (l : List Held). length l) same in
+    let all = ap (λ (l : List AddedModule). length l) new in
+    let full = ap (λ (l : List AddedModule). length l) same in
     let replaced : take c.self.inside.added.len (c.keep-count.new.added ++ drop (length c.keep-count.new.added) hs) ≡ c.keep-count.new.added = all_replaced c.self.inside.added.len c.keep-count.new.added hs (omega arith) (omega arith) in
-    subst (λ (l : List Held). IsSpace c.self.inside.image c.self.inside.modules.entries l c.in_ok-made.left) (sym (replaced ∙ new))
+    subst (λ (l : List AddedModule). IsSpace c.self.inside.image c.self.inside.modules.entries l c.in_ok-made.left) (sym (replaced ∙ new))
     (space_made c.self.inside.image c.self.inside.modules.entries hs c.self.inside.left c.in_ok-made.left made c.self.invariant are)
 
 pub returns-clause-prepares : goal.returns-clause-prepares
@@ -47,11 +47,11 @@ returns-clause-prepares c =
     let was : c.deref.result.now ≡ hs = c.deref.ensures.value in
     let same : c.deref_mut.result.now ≡ hs = c.deref_mut.ensures.value in
     let are = rw was at c.in_ok-made.ensures in
-    let new : c.keep-count.new.added ≡ with_tables hs made = c.keep-count.ensures.tables ∙ ap (λ (l : List Held). with_tables l made) same in
+    let new : c.keep-count.new.added ≡ with_tables hs made = c.keep-count.ensures.tables ∙ ap (λ (l : List AddedModule). with_tables l made) same in
     let n = length_kept hs made in
     let len = c.deref_mut.ensures.len in
-    let all = ap (λ (l : List Held). length l) new in
-    let full = ap (λ (l : List Held). length l) same in
+    let all = ap (λ (l : List AddedModule). length l) new in
+    let full = ap (λ (l : List AddedModule). length l) same in
     let replaced : take c.self.inside.added.len (c.keep-count.new.added ++ drop (length c.keep-count.new.added) hs) ≡ c.keep-count.new.added = all_replaced c.self.inside.added.len c.keep-count.new.added hs (omega arith) (omega arith) in
     let now : map added_of (take c.self.inside.added.len (c.keep-count.new.added ++ drop (length c.keep-count.new.added) hs)) ≡ with_indexes (map added_of hs) (map index_made made) = ap (map added_of) (replaced ∙ new) ∙ added_made hs made in
     let rows = c.self.invariant.rows in

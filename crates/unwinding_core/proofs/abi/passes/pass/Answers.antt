@@ -10,22 +10,22 @@ loop-init g c =
 pub returns-in-Err : goal.returns-in-Err
 returns-in-Err g c =
     let some : c.args.limit - c.loop.counter ≡ suc (c.args.limit - (c.loop.counter + 1)) = omega arith in
-    ends _ _ _ _ _ _ _ _ _ _ _ c.meet.ensures.0 some c.loop.invariant c.meet.ensures.1 (sym (rw c.in-Err.is at c.meet.ensures.2))
+    ends _ _ _ _ _ _ _ _ _ _ _ c.visit_frame.ensures.0 some c.loop.invariant c.visit_frame.ensures.1 (sym (rw c.in-Err.is at c.visit_frame.ensures.2))
 
 pub returns-in-Ok-End : goal.returns-in-Ok-End
 returns-in-Ok-End g c =
     let some : c.args.limit - c.loop.counter ≡ suc (c.args.limit - (c.loop.counter + 1)) = omega arith in
-    ends _ _ _ _ _ _ _ _ _ _ _ c.meet.ensures.0 some c.loop.invariant c.meet.ensures.1 (sym (rw (c.in-Ok-End.is, c.in-Ok-End.field-0-is) at c.meet.ensures.2))
+    ends _ _ _ _ _ _ _ _ _ _ _ c.visit_frame.ensures.0 some c.loop.invariant c.visit_frame.ensures.1 (sym (rw (c.in-Ok-End.is, c.in-Ok-End.field-0-is) at c.visit_frame.ensures.2))
 
 pub returns-in-Ok-Stop : goal.returns-in-Ok-Stop
 returns-in-Ok-Stop g c =
     let some : c.args.limit - c.loop.counter ≡ suc (c.args.limit - (c.loop.counter + 1)) = omega arith in
-    ends _ _ _ _ _ _ _ _ _ _ _ c.meet.ensures.0 some c.loop.invariant c.meet.ensures.1 (sym (rw (c.in-Ok-Stop.is, c.in-Ok-Stop.field-0-is) at c.meet.ensures.2))
+    ends _ _ _ _ _ _ _ _ _ _ _ c.visit_frame.ensures.0 some c.loop.invariant c.visit_frame.ensures.1 (sym (rw (c.in-Ok-Stop.is, c.in-Ok-Stop.field-0-is) at c.visit_frame.ensures.2))
 
 pub loop-preserved : goal.loop-preserved
 loop-preserved g c =
     let some : c.args.limit - c.loop.counter ≡ suc (c.args.limit - (c.loop.counter + 1)) = omega arith in
-    goes_on _ _ _ _ _ _ _ _ _ _ _ c.meet.ensures.0 some c.loop.invariant c.meet.ensures.1 (sym (rw (c.in-Ok-Caller.is, c.in-Ok-Caller.field-0-is) at c.meet.ensures.2))
+    goes_on _ _ _ _ _ _ _ _ _ _ _ c.visit_frame.ensures.0 some c.loop.invariant c.visit_frame.ensures.1 (sym (rw (c.in-Ok-Caller.is, c.in-Ok-Caller.field-0-is) at c.visit_frame.ensures.2))
 
 pub returns : goal.returns
 returns g c =

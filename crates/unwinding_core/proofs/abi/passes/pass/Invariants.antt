@@ -3,7 +3,7 @@ use Rattle.unwinding_frames.specs.Calling.{machine_of}
 use Rattle.unwinding_frames.specs.Passes.{without_mark}
 use Rattle.unwinding_frames.specs.Seen.{in_column, stepping, answering}
 use Rattle.unwinding_core.specs.Stopping.{stopping}
-use Rattle.unwinding_core.specs.Turns.{thrown_of, asks_in}
+use Rattle.unwinding_core.specs.FrameVisits.{thrown_of, asks_in}
 use Rattle.unwinding_core.proofs.Lines.{Reaches}
 use Rattle.unwinding_core.proofs.abi.passes.pass.Given as goal
 
