@@ -14,7 +14,7 @@ use Rattle.backtrace.specs.Code.{PlacesValue, places_by}
 use Rattle.stack_snapshot.specs.Sampled.{SampledContent, sampled_in, sampled_space}
 use Rattle.stack_report.specs.Report.{line}
 use Rattle.folded_stacks.specs.declared.samples.Sample.{Sample}
-use Rattle.backtrace.specs.declared.words.Options.{Options}
+use Rattle.backtrace.specs.declared.options.Options.{Options}
 use Rattle.backtrace.specs.Options.{options_of}
 use Rattle.backtrace.specs.Tracing.{TraceValue}
 use Rattle.backtrace.specs.Lines.{thread_line}

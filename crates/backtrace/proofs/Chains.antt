@@ -14,7 +14,7 @@ use Rattle.format_definitions.specs.Stops.{IsDescribedStop}
 use Rattle.unwind_arch.specs.declared.x86_64.Context.{Context}
 use Rattle.unwind_arch.specs.ContextViews.{columns_of}
 use Rattle.format_frames.specs.declared.machine.Stepped.{Stepped}
-use Rattle.stack_steps.specs.declared.answers.DeliverError.{DeliverError}
+use Rattle.stack_steps.specs.declared.error.DeliverError.{DeliverError}
 use Rattle.stack_steps.specs.declared.space.Module.{Module}
 use Rattle.stack_steps.specs.Modules.{SpaceValue, AreApart, module_at}
 use Rattle.stack_steps.specs.SpaceViews.{formats_of}
@@ -23,18 +23,18 @@ use Rattle.stack_steps.specs.Undoing.{UndoneIn}
 use Rattle.stack_steps.proofs.ContextLemmas.{IsWhole}
 use Rattle.stack_steps.proofs.MetCalls.{format_stopped}
 use Rattle.stack_steps.proofs.StepAnswers.{ends_step}
-use Rattle.stack_walks.specs.Fronts.{start_state, front_of, front_of_chain}
+use Rattle.stack_walks.specs.WalkEnds.{start_state, contexts_to_end, end_reason_of_chain}
 use Rattle.stack_walks.specs.Walking.{StartsChain}
-use Rattle.stack_walks.proofs.ChainFronts.{chain_comes, stop_comes}
+use Rattle.stack_walks.proofs.ChainEnds.{chain_comes, stop_comes}
 use Rattle.stack_walks.proofs.ChainWalked.{chain_walked}
 use Rattle.stack_walks.proofs.StoppedWalk.{stopped_walked}
-use Rattle.stack_walks.proofs.FrontAnswers.{line_whole}
+use Rattle.stack_walks.proofs.EndAnswers.{line_whole}
 use Rattle.stack_deliver.specs.StateViews.{state_of}
 use Rattle.stack_deliver.proofs.Chains.{shown_state, shown_states}
 use Rattle.stack_snapshot.specs.Content.{Content, space_of}
 use Rattle.stack_snapshot.specs.Described.{DescribesStop, DescribesWalk}
 use Rattle.backtrace.specs.Code.{CodeValue, PlacesValue, code_at}
-use Rattle.backtrace.specs.declared.words.Options.{Options}
+use Rattle.backtrace.specs.declared.options.Options.{Options}
 use Rattle.backtrace.specs.Tracing.{TraceValue, IsNowhere, called_from, is_nowhere, returned_caller, returned_to}
 use Rattle.backtrace.specs.Lines.{backtrace_text}
 use Rattle.backtrace.specs.Due.{IsTraceOf, DescribesCallToNowhere, text_of, chain_text, called_text}
@@ -128,9 +128,9 @@ module _ (s : Content) (apart : AreApart 0 (space_of s).modules) (laid : IsLaidO
   -- of a walk that begins at the start
   abbrev walked : Bool → State → List Call → TraceValue
   walked interrupted start calls =
-      record { first = None; states = front_of (space_of s) s.limit s.start interrupted; why = front_of_chain (space_of s).modules (last_state start calls) }
+      record { first = None; states = contexts_to_end (space_of s) s.limit s.start interrupted; why = end_reason_of_chain (space_of s).modules (last_state start calls) }
 
-  lines_are : (o : Options) (places : PlacesValue) (start : State) (calls : List Call) → map state_of (front_of (space_of s) s.limit s.start s.interrupted) ≡ states_of start calls →
+  lines_are : (o : Options) (places : PlacesValue) (start : State) (calls : List Call) → map state_of (contexts_to_end (space_of s) s.limit s.start s.interrupted) ≡ states_of start calls →
       text_of o s places (walked s.interrupted start calls) ≡ chain_text o s places start calls
   unfolding backtrace_text
   lines_are o places start calls shown = rw shown refl
@@ -140,8 +140,8 @@ module _ (s : Content) (apart : AreApart 0 (space_of s).modules) (laid : IsLaidO
       (t : TraceValue) × IsTraceOf s places t × (text_of o s places t ≡ chain_text o s places start calls)
   chain_traced o places functions start calls is =
       let w = chain_walked (space_of s) s.start s.limit functions start calls apart laid is.1 in
-      let all : front_of (space_of s) s.limit s.start false ≡ w.0 = line_whole (space_of s) s.limit (start_state s.start false) w.0 w.1 in
-      let shown : map state_of (front_of (space_of s) s.limit s.start s.interrupted) ≡ states_of start calls = rw (is.0, all) (shown_states w.0 (states_of start calls) w.2.states) in
+      let all : contexts_to_end (space_of s) s.limit s.start false ≡ w.0 = line_whole (space_of s) s.limit (start_state s.start false) w.0 w.1 in
+      let shown : map state_of (contexts_to_end (space_of s) s.limit s.start s.interrupted) ≡ states_of start calls = rw (is.0, all) (shown_states w.0 (states_of start calls) w.2.states) in
       let why = chain_comes (space_of s) apart laid s.start s.limit functions start calls is.1 in (
         walked s.interrupted start calls,
         rw is.0 (refl, record { states = refl; why = why }),
@@ -153,8 +153,8 @@ module _ (s : Content) (apart : AreApart 0 (space_of s).modules) (laid : IsLaidO
       (t : TraceValue) × IsTraceOf s places t × (text_of o s places t ≡ chain_text o s places start (call ∷ calls))
   stop_traced o places functions start call calls is =
       let w = stopped_walked (space_of s) functions start call calls s.start apart laid s.limit is.1 in
-      let all : front_of (space_of s) s.limit s.start true ≡ w.0 = line_whole (space_of s) s.limit (start_state s.start true) w.0 w.1 in
-      let shown : map state_of (front_of (space_of s) s.limit s.start s.interrupted) ≡ states_of start (call ∷ calls) = rw (is.0, all) (shown_states w.0 (states_of start (call ∷ calls)) w.2.states) in
+      let all : contexts_to_end (space_of s) s.limit s.start true ≡ w.0 = line_whole (space_of s) s.limit (start_state s.start true) w.0 w.1 in
+      let shown : map state_of (contexts_to_end (space_of s) s.limit s.start s.interrupted) ≡ states_of start (call ∷ calls) = rw (is.0, all) (shown_states w.0 (states_of start (call ∷ calls)) w.2.states) in
       let stop : IsDescribedStop (space_of s).image (formats_of (space_of s)) functions start call = is.1.stopped in
       let step : UndoneIn stop.lies.home (step_of (space_of s) s.start true) (columns_of s.start) call.caller = format_stopped (space_of s) s.start functions start call apart laid stop is.1.shows in
       let none : called_from (space_of s) places.code s.start true ≡ None = stepped_somewhere (space_of s) places.code s.start step.next step.answered in
@@ -174,11 +174,11 @@ module _ (s : Content) (apart : AreApart 0 (space_of s).modules) (laid : IsLaidO
       let fewer : length calls < s.limit - 1 = omega arith in
       let starts : StartsChain (space_of s) d.0 (s.limit - 1) functions caller calls = record { described = is.described; shows = d.2; shorter = fewer } in
       let w = chain_walked (space_of s) d.0 (s.limit - 1) functions caller calls apart laid starts in
-      let all : front_of (space_of s) (s.limit - 1) d.0 false ≡ w.0 = line_whole (space_of s) (s.limit - 1) (start_state d.0 false) w.0 w.1 in
-      let shown : map state_of (front_of (space_of s) (s.limit - 1) d.0 false) ≡ states_of caller calls = rw all (shown_states w.0 (states_of caller calls) w.2.states) in
+      let all : contexts_to_end (space_of s) (s.limit - 1) d.0 false ≡ w.0 = line_whole (space_of s) (s.limit - 1) (start_state d.0 false) w.0 w.1 in
+      let shown : map state_of (contexts_to_end (space_of s) (s.limit - 1) d.0 false) ≡ states_of caller calls = rw all (shown_states w.0 (states_of caller calls) w.2.states) in
       let first : state_of s.start ≡ start = shown_state s.start start is.shows in
       let why = chain_comes (space_of s) apart laid d.0 (s.limit - 1) functions caller calls starts in (
-        record { first = Some s.start; states = front_of (space_of s) (s.limit - 1) d.0 false; why = front_of_chain (space_of s).modules (last_state caller calls) },
+        record { first = Some s.start; states = contexts_to_end (space_of s) (s.limit - 1) d.0 false; why = end_reason_of_chain (space_of s).modules (last_state caller calls) },
         rw d.1 (refl, record { states = refl; why = why }),
         rw (first, shown) refl,
       )

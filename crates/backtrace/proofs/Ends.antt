@@ -7,7 +7,7 @@ use Rattle.stack_snapshot.specs.declared.errors.SnapshotError.{SnapshotError}
 use Rattle.stack_snapshot.specs.Answers.{content_of, value_of}
 use Rattle.stack_snapshot.specs.Sampled.{SampledContent, sampled_in, sampled_space}
 use Rattle.backtrace.specs.Code.{PlacesValue, places_by}
-use Rattle.backtrace.specs.declared.words.Options.{Options}
+use Rattle.backtrace.specs.declared.options.Options.{Options}
 use Rattle.backtrace.specs.Lines.{thread_line}
 use Rattle.backtrace.specs.Threads.{AreThreads}
 use Rattle.backtrace.specs.Due.{IsBacktraceIn, IsBacktraceOf, IsOfSamples, IsOfSnapshot}

@@ -13,7 +13,7 @@ use Rattle.command_ends.specs.declared.status.Status.{Status}
 use Rattle.command_ends.specs.declared.status.Status.TheVariants.{BadSnapshot, NotJson, TooLong}
 use Rattle.command_ends.specs.Verdicts.{Tells, ComesExactly, verdict}
 use Rattle.command_ends.proofs.VerdictLemmas.{comes, told_as}
-use Rattle.backtrace.specs.declared.words.Options.{Options}
+use Rattle.backtrace.specs.declared.options.Options.{Options}
 use Rattle.backtrace.specs.Options.{options_of}
 use Rattle.backtrace.specs.Due.{content_due, due_of, error_in, error_of, options_due, read_due, IsFaulty, IsBacktrace, IsBacktraceBy}
 use Rattle.backtrace.proofs.Ends.{read_there}

@@ -4,11 +4,11 @@ use Rattle.std.specs.Prelude.{if◌then◌else◌, option_and_then}
 use Rattle.unwind_arch.specs.declared.x86_64.Context.{Context}
 use Rattle.format_frames.specs.declared.machine.Stepped.{Stepped}
 use Rattle.stack_steps.specs.Modules.{SpaceValue}
-use Rattle.stack_walks.specs.declared.front.Front.{Front}
-use Rattle.stack_walks.specs.declared.front.Front.TheVariants.{Outermost, NoModule, NoDescription, UnreadableTable, Refused, Limit}
-use Rattle.stack_walks.specs.Fronts.{reached_after, reached_by, caller_from, start_state, front_of, ComesTo}
-use Rattle.stack_walks.proofs.FrontAnswers.{one_front}
-use Rattle.stack_walks.proofs.FrontThere.{front_there}
+use Rattle.stack_walks.specs.declared.walk_end.EndReason.{EndReason}
+use Rattle.stack_walks.specs.declared.walk_end.EndReason.TheVariants.{Outermost, NoModule, NoDescription, UnreadableTable, Refused, Limit}
+use Rattle.stack_walks.specs.WalkEnds.{reached_after, reached_by, caller_from, start_state, contexts_to_end, ComesTo}
+use Rattle.stack_walks.proofs.EndAnswers.{one_front}
+use Rattle.stack_walks.proofs.EndThere.{end_there}
 use Rattle.backtrace.specs.Code.{CodeValue}
 use Rattle.backtrace.specs.Tracing.{TraceValue}
 use Rattle.backtrace.specs.FramePointers.{is_without_table, caller_by_pointer, last_of, guess_after, IsWalkFrom, AreGuesses}
@@ -35,7 +35,7 @@ reached_some next (suc room) s is = go (next s)
     go (Some t) = omega arith
 
 -- without a place it comes to the limit
-comes_to_limit : (why : Front) (space : SpaceValue) (c : Context) (interrupted : Bool) → ComesTo why space zero c interrupted → why ≡ Limit
+comes_to_limit : (why : EndReason) (space : SpaceValue) (c : Context) (interrupted : Bool) → ComesTo why space zero c interrupted → why ≡ Limit
 comes_to_limit Outermost space c interrupted is = absurd is
 comes_to_limit (NoModule a) space c interrupted is = absurd is
 comes_to_limit (NoDescription a) space c interrupted is = absurd is
@@ -93,8 +93,8 @@ module _ (pointers : Bool) (space : SpaceValue) (code : List CodeValue) (limit :
       go : (o : Option Context) → guess_after pointers space code t ≡ o → (ts : List TraceValue) × AreGuesses pointers space code limit n t ts
       go None none = ([], none)
       go (Some c) some =
-          let front = front_there space (limit - n) c false in
-          let u : TraceValue = record { first = None; states = front_of space (limit - n) c false; why = front.0 } in
+          let front = end_there space (limit - n) c false in
+          let u : TraceValue = record { first = None; states = contexts_to_end space (limit - n) c false; why = front.0 } in
           let walk : IsWalkFrom space (limit - n) c u = (refl, record { states = refl; why = front.1 }) in
           let last : u.why ≡ Limit = walk_of_none space (limit - n) c u walk (omega arith) in
           (u ∷ [], (c, some, walk, none_at_limit u last))
@@ -104,8 +104,8 @@ module _ (pointers : Bool) (space : SpaceValue) (code : List CodeValue) (limit :
           (ts : List TraceValue) × AreGuesses pointers space code limit n t ts
       go later None none = ([], none)
       go later (Some c) some =
-          let front = front_there space (limit - n) c false in
-          let u : TraceValue = record { first = None; states = front_of space (limit - n) c false; why = front.0 } in
+          let front = end_there space (limit - n) c false in
+          let u : TraceValue = record { first = None; states = contexts_to_end space (limit - n) c false; why = front.0 } in
           let walk : IsWalkFrom space (limit - n) c u = (refl, record { states = refl; why = front.1 }) in
           let place : 0 < limit - n → 0 < length u.states = walk_some space (limit - n) c u walk in
           let fewer : limit - (n + length u.states) ≤ left = fewer_left limit n (length u.states) left short place in

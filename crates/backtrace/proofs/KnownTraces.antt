@@ -6,16 +6,16 @@ use Rattle.unwind_definitions.specs.State.{State}
 use Rattle.stack_steps.specs.Modules.{SpaceValue, AreApart}
 use Rattle.stack_steps.specs.KnownStacks.{is_by_signal, IsKnownStack}
 use Rattle.stack_steps.proofs.ContextLemmas.{IsWhole}
-use Rattle.stack_walks.specs.declared.front.Front.TheVariants.{Outermost}
-use Rattle.stack_walks.specs.Fronts.{start_state, front_of}
-use Rattle.stack_walks.specs.KnownWalks.{StartsKnownStack, front_of_stack}
+use Rattle.stack_walks.specs.declared.walk_end.EndReason.TheVariants.{Outermost}
+use Rattle.stack_walks.specs.WalkEnds.{start_state, contexts_to_end}
+use Rattle.stack_walks.specs.KnownWalks.{StartsKnownStack, end_reason_of_stack}
 use Rattle.stack_walks.proofs.KnownLines.{called_state, known_walked, known_comes}
-use Rattle.stack_walks.proofs.FrontAnswers.{line_whole}
+use Rattle.stack_walks.proofs.EndAnswers.{line_whole}
 use Rattle.stack_deliver.specs.StateViews.{state_of}
 use Rattle.stack_deliver.proofs.Chains.{shown_state, shown_states}
 use Rattle.stack_snapshot.specs.Content.{Content, space_of}
 use Rattle.backtrace.specs.Code.{PlacesValue}
-use Rattle.backtrace.specs.declared.words.Options.{Options}
+use Rattle.backtrace.specs.declared.options.Options.{Options}
 use Rattle.backtrace.specs.Tracing.{TraceValue, called_from, is_nowhere}
 use Rattle.backtrace.specs.Lines.{backtrace_text}
 use Rattle.backtrace.specs.Due.{IsTraceOf, text_of}
@@ -31,10 +31,10 @@ module _ (s : Content) (apart : AreApart 0 (space_of s).modules) (laid : IsLaidO
   -- of a walk that begins at the start
   abbrev walked : (places : PlacesValue) (start : State) (callers : List State) → BeginsKnownStack s places start callers → TraceValue
   walked places start callers is =
-      record { first = None; states = front_of (space_of s) s.limit s.start s.interrupted; why = front_of_stack (space_of s) s.interrupted start callers is.starts.stack }
+      record { first = None; states = contexts_to_end (space_of s) s.limit s.start s.interrupted; why = end_reason_of_stack (space_of s) s.interrupted start callers is.starts.stack }
 
   lines_are : (o : Options) (places : PlacesValue) (start : State) (callers : List State) (is : BeginsKnownStack s places start callers) →
-      map state_of (front_of (space_of s) s.limit s.start s.interrupted) ≡ start ∷ callers → text_of o s places (walked places start callers is) ≡ stack_text o s places start callers is
+      map state_of (contexts_to_end (space_of s) s.limit s.start s.interrupted) ≡ start ∷ callers → text_of o s places (walked places start callers is) ≡ stack_text o s places start callers is
   unfolding backtrace_text
   lines_are o places start callers is shown = rw shown refl
 
@@ -43,8 +43,8 @@ module _ (s : Content) (apart : AreApart 0 (space_of s).modules) (laid : IsLaidO
       (t : TraceValue) × IsTraceOf s places t × (text_of o s places t ≡ stack_text o s places start callers is)
   stack_traced o places start callers is =
       let w = known_walked (space_of s) apart laid s.start s.limit s.interrupted start callers is.starts in
-      let all : front_of (space_of s) s.limit s.start s.interrupted ≡ w.0 = line_whole (space_of s) s.limit (start_state s.start s.interrupted) w.0 w.1 in
-      let shown : map state_of (front_of (space_of s) s.limit s.start s.interrupted) ≡ start ∷ callers = rw all (shown_states w.0 (start ∷ callers) w.2.each) in
+      let all : contexts_to_end (space_of s) s.limit s.start s.interrupted ≡ w.0 = line_whole (space_of s) s.limit (start_state s.start s.interrupted) w.0 w.1 in
+      let shown : map state_of (contexts_to_end (space_of s) s.limit s.start s.interrupted) ≡ start ∷ callers = rw all (shown_states w.0 (start ∷ callers) w.2.each) in
       let why = known_comes (space_of s) apart laid s.start s.limit s.interrupted start callers is.starts in
       let somewhere : is_nowhere (space_of s) places.code s.start s.interrupted ≡ false = is.somewhere in
       let none : called_from (space_of s) places.code s.start s.interrupted ≡ None = rw somewhere refl in (
@@ -63,16 +63,16 @@ module _ (s : Content) (apart : AreApart 0 (space_of s).modules) (laid : IsLaidO
       let fewer : length callers < s.limit - 1 = omega arith in
       let starts : StartsKnownStack (space_of s) d.0 (s.limit - 1) false caller callers = record { stack = is.stack; shows = d.2; shorter = fewer } in
       let w = known_walked (space_of s) apart laid d.0 (s.limit - 1) false caller callers starts in
-      let all : front_of (space_of s) (s.limit - 1) d.0 false ≡ w.0 = line_whole (space_of s) (s.limit - 1) (start_state d.0 false) w.0 w.1 in
-      let shown : map state_of (front_of (space_of s) (s.limit - 1) d.0 false) ≡ caller ∷ callers = rw all (shown_states w.0 (caller ∷ callers) w.2.each) in
+      let all : contexts_to_end (space_of s) (s.limit - 1) d.0 false ≡ w.0 = line_whole (space_of s) (s.limit - 1) (start_state d.0 false) w.0 w.1 in
+      let shown : map state_of (contexts_to_end (space_of s) (s.limit - 1) d.0 false) ≡ caller ∷ callers = rw all (shown_states w.0 (caller ∷ callers) w.2.each) in
       let first : state_of s.start ≡ start = shown_state s.start start is.shows in
       let why = known_comes (space_of s) apart laid d.0 (s.limit - 1) false caller callers starts in (
-        record { first = Some s.start; states = front_of (space_of s) (s.limit - 1) d.0 false; why = front_of_stack (space_of s) false caller callers is.stack },
+        record { first = Some s.start; states = contexts_to_end (space_of s) (s.limit - 1) d.0 false; why = end_reason_of_stack (space_of s) false caller callers is.stack },
         rw d.1 (refl, record { states = refl; why = why }),
         rw (first, shown) refl,
       )
 
 -- A stack whose outermost state returns to 0 ends there, whether or not that state was interrupted.
-pub ends_outermost : (space : SpaceValue) (interrupted : Bool) (s : State) (callers : List State) (stack : IsKnownStack space interrupted s callers) → last_returns s callers ≡ 0 → front_of_stack space interrupted s callers stack ≡ Outermost
+pub ends_outermost : (space : SpaceValue) (interrupted : Bool) (s : State) (callers : List State) (stack : IsKnownStack space interrupted s callers) → last_returns s callers ≡ 0 → end_reason_of_stack space interrupted s callers stack ≡ Outermost
 ends_outermost space interrupted s [] stack none = rw none refl
 ends_outermost space interrupted s (t ∷ callers) stack none = ends_outermost space (is_by_signal space interrupted s t stack.0) t callers stack.1 none

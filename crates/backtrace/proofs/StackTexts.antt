@@ -3,11 +3,11 @@ use Rattle.std.proofs.Common.{◌≡◌, ℕ, ◌-◌, Bool, true, false, ◌&&�
 use Rattle.std.specs.Prelude.{if◌then◌else◌, option_and_then}
 use Rattle.unwind_arch.specs.declared.x86_64.Context.{Context}
 use Rattle.stack_steps.specs.Modules.{SpaceValue}
-use Rattle.stack_walks.specs.Fronts.{start_state, front_of}
-use Rattle.stack_walks.proofs.FrontAnswers.{one_front}
-use Rattle.stack_walks.proofs.FrontThere.{front_there}
+use Rattle.stack_walks.specs.WalkEnds.{start_state, contexts_to_end}
+use Rattle.stack_walks.proofs.EndAnswers.{one_front}
+use Rattle.stack_walks.proofs.EndThere.{end_there}
 use Rattle.backtrace.specs.Code.{CodeValue, PlacesValue}
-use Rattle.backtrace.specs.declared.words.Options.{Options}
+use Rattle.backtrace.specs.declared.options.Options.{Options}
 use Rattle.backtrace.specs.Tracing.{TraceValue, IsTrace, IsTraceFrom, called_from}
 use Rattle.backtrace.specs.FramePointers.{is_without_table, caller_by_pointer, last_of, guess_after, AreGuesses}
 use Rattle.backtrace.specs.Lines.{backtrace_text, contexts_of, states_text, traces_text}
@@ -28,11 +28,11 @@ one_traced space code c interrupted limit t u is other = one_from (called_from s
 -- and it is there
 from_there : (o : Option Context) (space : SpaceValue) (c : Context) (interrupted : Bool) (limit : ℕ) → (t : TraceValue) × IsTraceFrom o space c interrupted limit t
 from_there None space c interrupted limit =
-    let front = front_there space limit c interrupted in
-    (record { first = None; states = front_of space limit c interrupted; why = front.0 }, (refl, record { states = refl; why = front.1 }))
+    let front = end_there space limit c interrupted in
+    (record { first = None; states = contexts_to_end space limit c interrupted; why = front.0 }, (refl, record { states = refl; why = front.1 }))
 from_there (Some caller) space c interrupted limit =
-    let front = front_there space (limit - 1) caller false in
-    (record { first = Some c; states = front_of space (limit - 1) caller false; why = front.0 }, (refl, record { states = refl; why = front.1 }))
+    let front = end_there space (limit - 1) caller false in
+    (record { first = Some c; states = contexts_to_end space (limit - 1) caller false; why = front.0 }, (refl, record { states = refl; why = front.1 }))
 
 traced_there : (space : SpaceValue) (code : List CodeValue) (c : Context) (interrupted : Bool) (limit : ℕ) → (t : TraceValue) × IsTrace space code c interrupted limit t
 traced_there space code c interrupted limit = from_there (called_from space code c interrupted) space c interrupted limit

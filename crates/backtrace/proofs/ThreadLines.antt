@@ -6,7 +6,7 @@ use Rattle.stack_steps.specs.Modules.{SpaceValue}
 use Rattle.folded_stacks.specs.declared.samples.Sample.{Sample}
 use Rattle.stack_snapshot.specs.Sampled.{SampledContent, sampled_space}
 use Rattle.backtrace.specs.Code.{PlacesValue}
-use Rattle.backtrace.specs.declared.words.Options.{Options}
+use Rattle.backtrace.specs.declared.options.Options.{Options}
 use Rattle.backtrace.specs.Tracing.{TraceValue}
 use Rattle.backtrace.specs.Lines.{thread_line}
 use Rattle.backtrace.specs.Due.{IsTraceOf, text_of}

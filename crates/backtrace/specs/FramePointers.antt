@@ -8,8 +8,8 @@ use Rattle.unwind_definitions.specs.Prologue.{Step, Push, SetFrame, Followed}
 use Rattle.unwind_definitions.specs.LanguageSearch.{address_of_call}
 use Rattle.unwind_arch.specs.declared.x86_64.Context.{Context}
 use Rattle.stack_steps.specs.Modules.{SpaceValue, module_at}
-use Rattle.stack_walks.specs.declared.front.Front.{Front}
-use Rattle.stack_walks.specs.declared.front.Front.TheVariants.{Outermost, NoModule, NoDescription, UnreadableTable, Refused, Limit}
+use Rattle.stack_walks.specs.declared.walk_end.EndReason.{EndReason}
+use Rattle.stack_walks.specs.declared.walk_end.EndReason.TheVariants.{Outermost, NoModule, NoDescription, UnreadableTable, Refused, Limit}
 use Rattle.backtrace.specs.Code.{CodeValue, code_at}
 use Rattle.backtrace.specs.Tracing.{TraceValue, IsFrontOf}
 
@@ -57,7 +57,7 @@ caller_by_pointer space code c = option_and_then (if_called space code) (pointed
 
 -- A walk goes no further since no table describes the address: it lies in code without a table, or the tables of its module have no
 -- description of it.
-abbrev pub is_without_table : List CodeValue → Front → Bool
+abbrev pub is_without_table : List CodeValue → EndReason → Bool
 is_without_table code Outermost = false
 is_without_table code (NoModule a) = is_some (code_at code a)
 is_without_table code (NoDescription a) = true

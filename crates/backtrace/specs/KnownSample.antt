@@ -1,11 +1,11 @@
--- A small program (examples/frame_layouts.c), built by gcc at -O2, that gdb stopped in an epilogue after two pops. Its stack goes
--- through a part of a function that lies apart from it, a frame with pushed arguments and a realigned one, to _start.
+-- The backtrace of a small program (examples/frame_layouts.c, by gcc at -O2) that gdb stopped in an epilogue after two pops. Its
+-- frames are a part of a function that lies apart from it, one with pushed arguments, a realigned one, and _start.
 use Rattle.std.specs.Prelude.{ℕ, List, [], ◌∷◌, ◌++◌, codes, true}
 use Rattle.frame_facts_laws.specs.SampleProgram as sample
 use Rattle.fact_walks.specs.SampleSpace.{sample_module, in_epilogue}
+use Rattle.backtrace.specs.Code.{PlacesValue, without_code}
 use Rattle.stack_snapshot.specs.Content.{Content}
 use Rattle.stack_report.specs.Report.{line}
-use Rattle.backtrace.specs.Code.{PlacesValue, without_code}
 
 abbrev pub snapshot : Content
 snapshot = record {

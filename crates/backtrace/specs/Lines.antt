@@ -6,8 +6,8 @@ use Rattle.unwind_definitions.specs.State.{State}
 use Rattle.unwind_definitions.specs.declared.error.Error.{Error}
 use Rattle.unwind_definitions.specs.LanguageSearch.{address_of_call}
 use Rattle.unwind_arch.specs.declared.x86_64.Context.{Context}
-use Rattle.stack_walks.specs.declared.front.Front.{Front}
-use Rattle.stack_walks.specs.declared.front.Front.TheVariants.{Outermost, NoModule, NoDescription, UnreadableTable, Refused, Limit}
+use Rattle.stack_walks.specs.declared.walk_end.EndReason.{EndReason}
+use Rattle.stack_walks.specs.declared.walk_end.EndReason.TheVariants.{Outermost, NoModule, NoDescription, UnreadableTable, Refused, Limit}
 use Rattle.stack_deliver.specs.StateViews.{state_of}
 use Rattle.stack_snapshot.specs.Origins.{OriginValue, origin_at, file_name}
 use Rattle.stack_report.specs.Digits.{hexadecimal, word}
@@ -112,7 +112,7 @@ unfoldable pub limit_text : List ℕ
 limit_text = codes "more frames than the limit"
 
 -- why a walk goes no further
-abbrev pub why_text : PlacesValue → Front → List ℕ
+abbrev pub why_text : PlacesValue → EndReason → List ℕ
 why_text places Outermost = codes "the outermost frame, which returns to 0"
 why_text places (NoModule a) = unheld_text (code_at places.code a) a
 why_text places (NoDescription a) = undescribed_text places.origins a
@@ -120,13 +120,13 @@ why_text places (UnreadableTable a offset e) = undescribed_text places.origins a
 why_text places (Refused a e) = codes "no caller of " ++ place_text places.origins a a ++ codes ": " ++ refusal_text e
 why_text places Limit = limit_text
 
-abbrev pub end_line : PlacesValue → Front → List ℕ
+abbrev pub end_line : PlacesValue → EndReason → List ℕ
 end_line places why = line (codes "end: " ++ why_text places why)
 
 -- ---- the whole text
 
 -- What is written of states from the innermost outwards: a line for each frame, and last why there are no more.
-unfoldable pub states_text : FormValue → List State → Front → List ℕ
+unfoldable pub states_text : FormValue → List State → EndReason → List ℕ
 states_text form states why = frame_lines form 0 states ++ end_line form.places why
 
 -- all contexts of a trace, from the start outwards
@@ -155,7 +155,7 @@ pointed_form form n = record { registers = form.registers; interrupted = false; 
 
 -- The lines of walks, one after another, that begin with such states, and last why the last of them goes no further, or for this
 -- reason where there are none.
-abbrev pub pointed_text : FormValue → ℕ → Front → List TraceValue → List ℕ
+abbrev pub pointed_text : FormValue → ℕ → EndReason → List TraceValue → List ℕ
 pointed_text form n why [] = end_line form.places why
 pointed_text form n why (t ∷ ts) = frame_lines (pointed_form form n) n (shown_states t.states) ++ pointed_text form (n + length t.states) t.why ts
 

@@ -1,7 +1,7 @@
 -- What words ask for.
 use Rattle.std.specs.Prelude.{ℕ, true, false, List, [], ◌∷◌, Option, Some, None, codes, if◌then◌else◌, option_and_then}
 use Rattle.std.specs.Str.{bytes_eq}
-use Rattle.backtrace.specs.declared.words.Options.{Options}
+use Rattle.backtrace.specs.declared.options.Options.{Options}
 
 -- without words
 abbrev pub plain : Options

@@ -3,7 +3,7 @@ use Rattle.std.specs.Prelude.{ℕ, true, false, List, [], ◌∷◌, ◌++◌, S
 use Rattle.unwind_definitions.specs.State.{State}
 use Rattle.unwind_definitions.specs.Function.{Function}
 use Rattle.unwind_arch.specs.declared.x86_64.Context.{Context}
-use Rattle.stack_walks.specs.declared.front.Front.TheVariants.{NoModule}
+use Rattle.stack_walks.specs.declared.walk_end.EndReason.TheVariants.{NoModule}
 use Rattle.stack_snapshot.specs.Content.{Content}
 use Rattle.stack_snapshot.specs.Sampled.{SampledContent}
 use Rattle.stack_report.specs.Report.{line}

@@ -3,7 +3,7 @@ use Rattle.std.specs.Prelude.{◌≡◌, ℕ, Bool, List, length}
 use Rattle.unwind_arch.specs.declared.x86_64.Context.{Context}
 use Rattle.stack_steps.specs.Modules.{SpaceValue}
 use Rattle.backtrace.specs.Code.{PlacesValue}
-use Rattle.backtrace.specs.declared.words.Options.{Options}
+use Rattle.backtrace.specs.declared.options.Options.{Options}
 use Rattle.backtrace.specs.Tracing.{TraceValue, IsTrace}
 use Rattle.backtrace.specs.FramePointers.{AreGuesses}
 use Rattle.backtrace.specs.Lines.{contexts_of, traces_text}

@@ -5,7 +5,7 @@ use Rattle.folded_stacks.specs.declared.samples.Sample.{Sample}
 use Rattle.stack_snapshot.specs.Content.{Content}
 use Rattle.stack_snapshot.specs.Sampled.{SampledContent, sampled_space}
 use Rattle.backtrace.specs.Code.{PlacesValue}
-use Rattle.backtrace.specs.declared.words.Options.{Options}
+use Rattle.backtrace.specs.declared.options.Options.{Options}
 use Rattle.backtrace.specs.Stacks.{IsStackText}
 use Rattle.backtrace.specs.Lines.{thread_line}
 

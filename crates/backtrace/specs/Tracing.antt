@@ -3,9 +3,9 @@ use Rattle.std.specs.Prelude.{◌≡◌, ℕ, ◌+◌, ◌-◌, ◌%◌, ◌^◌
 use Rattle.memory_image.specs.Image.{Span, word_at}
 use Rattle.unwind_arch.specs.declared.x86_64.Context.{Context}
 use Rattle.unwind_definitions.specs.Columns as column
-use Rattle.stack_walks.specs.declared.front.Front.{Front}
+use Rattle.stack_walks.specs.declared.walk_end.EndReason.{EndReason}
 use Rattle.stack_steps.specs.Modules.{SpaceValue, module_at}
-use Rattle.stack_walks.specs.Fronts.{ComesTo, front_of}
+use Rattle.stack_walks.specs.WalkEnds.{ComesTo, contexts_to_end}
 use Rattle.backtrace.specs.Code.{CodeValue, code_at}
 
 -- the registers after a return to an address: it is popped, and every other register stays
@@ -35,7 +35,7 @@ called_from space code c interrupted = if is_nowhere space code c interrupted th
 pub record TraceValue : Type 0 where
   pub first : Option Context
   pub states : List Context
-  pub why : Front
+  pub why : EndReason
 
 -- a trace, and for how many states there is place
 pub record TracedValue : Type 0 where
@@ -44,7 +44,7 @@ pub record TracedValue : Type 0 where
 
 -- the states are those of a walk of at most so many, which ends for this reason
 pub record IsFrontOf (space : SpaceValue) (limit : ℕ) (c : Context) (interrupted : Bool) (t : TraceValue) : Type 0 where
-  pub states : t.states ≡ front_of space limit c interrupted
+  pub states : t.states ≡ contexts_to_end space limit c interrupted
   pub why : ComesTo t.why space limit c interrupted
 
 -- by the caller that was read from the stack, if one was

@@ -9,8 +9,8 @@ ghost use Rattle.backtrace.specs.Code.{range_of};
 
 use serde_json::Value;
 use stack_snapshot::{
-    Origins, SampledSnapshot, Snapshot, SnapshotError, origins_of, sampled_of, snapshot_of,
-    value_in, word_at,
+    Origins, SampledSnapshot, Snapshot, SnapshotError, file_name, origins_of, sampled_of,
+    snapshot_of, value_in, word_at,
 };
 use std::alloc::{AllocError, Global};
 use std::marker::Model;
@@ -38,7 +38,7 @@ impl CodeRange {
     pub fn name(&self) -> &[u8]
         ensures { result.now ≡ file_name self.now.path }
     {
-        after_slash(self.path.as_bytes())
+        file_name(self.path.as_bytes())
     }
 
     /// Whether an address lies in the range.
@@ -47,19 +47,6 @@ impl CodeRange {
     {
         self.start <= address && address < self.end
     }
-}
-
-/// What is after the last slash.
-fn after_slash(path: &[u8]) -> &[u8]
-    ensures { result.now ≡ file_name path.now }
-{
-    let mut start = 0;
-    for place in 0..path.len() {
-        if path[place] == b'/' {
-            start = place + 1;
-        }
-    }
-    &path[start..]
 }
 
 /// The code without tables that a snapshot names, in its order.
@@ -146,7 +133,9 @@ fn code_of(alloc: Global, value: &Value) -> Result<CodeRanges, AllocError>
 /// What a snapshot names: the files of its modules, and the code without tables.
 #[derive(Drop)]
 pub struct Places {
+    /// The files of its modules.
     pub origins: Origins,
+    /// The code without tables.
     pub code: CodeRanges,
 }
 

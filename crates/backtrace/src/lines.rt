@@ -12,12 +12,13 @@ ghost use Rattle.backtrace.specs.Code.{code_at};
 
 use crate::code::{CodeRange, CodeRanges, Places};
 use crate::tracing::Trace;
-use stack_deliver::{Context, DeliverError, Error, Front, Stepped};
+use stack_deliver::{Context, DeliverError, EndReason, Error};
 use stack_report::{Report, error_name, line_of};
 use stack_snapshot::{Origin, Origins};
 use std::alloc::{AllocError, Global};
 use std::marker::Model;
 use unwind_arch::x86_64::{R12, R13, R14, R15, RBP, RBX, RSP};
+use unwinding_frames::address_asked;
 
 /// What the lines say beside the states.
 #[derive(Drop)]
@@ -175,9 +176,7 @@ fn put_registers(report: &mut Report, form: &Form<'_>, state: &Context) -> Resul
 fn inside_of(form: &Form<'_>, index: usize, state: &Context) -> u64
     ensures { result ≡ inside_of form.now index (state_of state.now) }
 {
-    let signal = form.interrupted && index == 0;
-    let context = *state;
-    Stepped { context, signal }.address()
+    address_asked(state.ra, form.interrupted && index == 0)
 }
 
 /// Puts where a frame stands.
@@ -286,7 +285,7 @@ fn put_refused(
     error: DeliverError,
 ) -> Result<(), AllocError>
     ensures { OnOk result (report.new ≡ report.old ++
-        why_text places.now (Front.Refused address error)) }
+        why_text places.now (EndReason.Refused address error)) }
 {
     report.put("no caller of ")?;
     put_place(report, &places.origins, address, address)?;
@@ -365,14 +364,14 @@ fn put_unread(report: &mut Report, offset: u64, error: Error) -> Result<(), Allo
 }
 
 /// Puts why a walk goes no further.
-fn put_why(report: &mut Report, places: &Places, why: Front) -> Result<(), AllocError>
+fn put_why(report: &mut Report, places: &Places, why: EndReason) -> Result<(), AllocError>
     ensures { OnOk result (report.new ≡ report.old ++ why_text places.now why) }
 {
     match why {
-        Front::Outermost => report.put("the outermost frame, which returns to 0"),
-        Front::NoModule(address) => put_unheld(report, &places.code, address),
-        Front::NoDescription(address) => put_undescribed(report, &places.origins, address),
-        Front::UnreadableTable {
+        EndReason::Outermost => report.put("the outermost frame, which returns to 0"),
+        EndReason::NoModule(address) => put_unheld(report, &places.code, address),
+        EndReason::NoDescription(address) => put_undescribed(report, &places.origins, address),
+        EndReason::UnreadableTable {
             address,
             offset,
             error,
@@ -380,13 +379,13 @@ fn put_why(report: &mut Report, places: &Places, why: Front) -> Result<(), Alloc
             put_undescribed(report, &places.origins, address)?;
             put_unread(report, offset, error)
         }
-        Front::Refused { address, error } => put_refused(report, places, address, error),
-        Front::Limit => put_limit(report),
+        EndReason::Refused { address, error } => put_refused(report, places, address, error),
+        EndReason::Limit => put_limit(report),
     }
 }
 
 /// Puts the last line.
-pub fn put_end(report: &mut Report, places: &Places, why: Front) -> Result<(), AllocError>
+pub fn put_end(report: &mut Report, places: &Places, why: EndReason) -> Result<(), AllocError>
     ensures { OnOk result (report.new ≡ report.old ++ end_line places.now why) }
 {
     report.put("end: ")?;

@@ -4,25 +4,27 @@
 
 mod code;
 mod lines;
+mod options;
 mod pointers;
 mod running;
 mod sample;
 mod stacks;
 mod threads;
 mod tracing;
-mod words;
 
-use crate::running::run;
 use command_ends::{Status, end_program, words_of};
 use memory_image::{StdinSource, StdoutSink};
 use std::process::ExitCode;
 
+/// The program's name, as its complaints begin.
+const PROGRAM: &str = "backtrace";
+
 fn main(rt: HostRuntime) -> ExitCode {
     let Ok(words) = words_of(&rt) else {
-        return end_program(&rt, "backtrace", Status::Memory);
+        return end_program(&rt, PROGRAM, Status::Memory);
     };
     let mut input = StdinSource::new(rt.stdin());
     let mut output = StdoutSink::new(rt.stdout());
-    let status = run(rt.alloc(), &words, &mut input, &mut output);
-    end_program(&rt, "backtrace", status)
+    let status = running::run(rt.alloc(), &words, &mut input, &mut output);
+    end_program(&rt, PROGRAM, status)
 }

@@ -12,7 +12,7 @@ ghost use Rattle.backtrace.specs.FramePointers.{popped_by, returned_by};
 
 use crate::code::CodeRanges;
 use memory_image::MemoryImage;
-use stack_deliver::{Context, Front, Space};
+use stack_deliver::{Context, EndReason, Space};
 use unwind_arch::x86_64::{RBP, RSP};
 
 /// The address in RBP, where it may be a frame pointer.
@@ -101,12 +101,12 @@ pub fn caller_by_pointer(space: &Space<'_>, code: &CodeRanges, callee: &Context)
 }
 
 /// Whether a walk goes no further since no table describes where its last state stands.
-pub fn is_without_table(code: &CodeRanges, why: Front) -> bool
+pub fn is_without_table(code: &CodeRanges, why: EndReason) -> bool
     ensures { result ≡ is_without_table code.now why }
 {
     match why {
-        Front::NoModule(address) => code.at(address).is_some(),
-        Front::NoDescription(_) | Front::UnreadableTable { .. } => true,
-        Front::Outermost | Front::Refused { .. } | Front::Limit => false,
+        EndReason::NoModule(address) => code.at(address).is_some(),
+        EndReason::NoDescription(_) | EndReason::UnreadableTable { .. } => true,
+        EndReason::Outermost | EndReason::Refused { .. } | EndReason::Limit => false,
     }
 }

@@ -29,10 +29,10 @@ ghost use Rattle.stack_snapshot.specs.Sampled.{SampledContent, sampled_in};
 
 use crate::code::{Places, read_placed_samples, read_placed_snapshot};
 use crate::lines::usage_line;
+use crate::options::{Options, options_of};
 use crate::stacks::{Shared, put_stack};
 use crate::threads::threads_text;
-use crate::words::{Options, options_of};
-use command_ends::{Answer, Status, Words, fault_answer, read_input, tell, text_answer};
+use command_ends::{Answer, Status, Words, fault_answer, read_input, text_answer, write_answer};
 use memory_image::{Sink, Source};
 use stack_report::Report;
 use stack_snapshot::{Snapshot, SnapshotError};
@@ -160,12 +160,10 @@ fn decide<I: Source>(alloc: Global, words: &Words, input: &mut I) -> Answer
 /// where the words name no options. The checks go in this order: words, reading, JSON, snapshot,
 /// writing. A walk that comes to a fault is no failure: the last line says it. Running out of
 /// memory at any of them is `Memory`.
-pub fn run<I: Source, O: Sink>(
-    alloc: Global,
-    words: &Words,
-    input: &mut I,
-    output: &mut O,
-) -> Status
+pub fn run<I, O>(alloc: Global, words: &Words, input: &mut I, output: &mut O) -> Status
+where
+    I: Source,
+    O: Sink,
     // What is due for the words and the source's bytes is answered and written: by the one
     // backtrace of the snapshot, if they ask for one.
     ensures told { IfSome (I.left input.old)
@@ -260,5 +258,5 @@ pub fn run<I: Source, O: Sink>(
     ensures no_refusal { result ≢ Status.Refused }
 {
     let answer = decide(alloc, words, input);
-    tell(output, answer.status, answer.text.bytes())
+    write_answer(output, answer.status, answer.text.bytes())
 }

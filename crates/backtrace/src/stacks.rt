@@ -7,8 +7,8 @@ ghost use Rattle.backtrace.specs.Tracing.{TraceValue};
 
 use crate::code::Places;
 use crate::lines::{Form, form_of, pointed_form, put_end, put_states, put_walked};
+use crate::options::Options;
 use crate::tracing::{Trace, trace_stack};
-use crate::words::Options;
 use stack_deliver::{Context, Space};
 use stack_report::Report;
 use std::alloc::{AllocError, Global};
@@ -16,9 +16,13 @@ use std::alloc::{AllocError, Global};
 /// What the backtraces of stacks share.
 #[derive(Clone, Copy)]
 pub struct Shared<'a, 'm> {
+    /// What the words ask for.
     pub options: Options,
+    /// The memory and the modules that stacks are traced over.
     pub space: &'a Space<'m>,
+    /// How many states a stack has places for, found by tables or by frame pointers.
     pub limit: u32,
+    /// The files and the code without tables that lines name.
     pub places: &'a Places,
 }
 

@@ -4,8 +4,8 @@ ghost use Rattle.backtrace.specs.Threads.{AreThreads, IsThread, IsThreadsOf};
 
 use crate::code::Places;
 use crate::lines::put_thread_line;
+use crate::options::Options;
 use crate::stacks::{Shared, put_stack};
-use crate::words::Options;
 use folded_stacks::Sample;
 use stack_report::Report;
 use stack_snapshot::SampledSnapshot;

@@ -15,7 +15,7 @@ ghost use Rattle.backtrace.specs.Lines.{contexts_of};
 use crate::code::CodeRanges;
 use crate::pointers::{caller_by_pointer, is_without_table};
 use memory_image::{MemoryImage, NoLedger, Steps};
-use stack_deliver::{Context, Front, Room, Space, walk_front_into};
+use stack_deliver::{Context, EndReason, Room, Space, walk_to_end_into};
 use std::alloc::{AllocError, Global};
 use std::marker::Model;
 use unwind_arch::x86_64::RSP;
@@ -88,7 +88,7 @@ pub fn called_from(
 pub struct Trace {
     first: Option<Context>,
     room: Room,
-    why: Front,
+    why: EndReason,
 }
 
 impl Model for Trace {
@@ -125,7 +125,7 @@ impl Trace {
     }
 
     /// Why the walk goes no further.
-    pub fn why(&self) -> Front
+    pub fn why(&self) -> EndReason
         ensures { result ≡ self.now.trace.why }
     {
         self.why
@@ -176,7 +176,7 @@ impl Trace {
     {
         let mut steps = Steps::new(NoLedger);
         self.first = None;
-        self.why = walk_front_into(space, caller, false, limit, &mut self.room, &mut steps);
+        self.why = walk_to_end_into(space, caller, false, limit, &mut self.room, &mut steps);
     }
 }
 
@@ -203,7 +203,7 @@ pub fn trace_stack(
     match called_from(space, code, start, interrupted) {
         Some(caller) => {
             let most = limit.saturating_sub(1);
-            let why = walk_front_into(space, &caller, false, most, &mut room, &mut steps);
+            let why = walk_to_end_into(space, &caller, false, most, &mut room, &mut steps);
             Ok(Trace {
                 first: Some(*start),
                 room,
@@ -211,7 +211,7 @@ pub fn trace_stack(
             })
         }
         None => {
-            let why = walk_front_into(space, start, interrupted, limit, &mut room, &mut steps);
+            let why = walk_to_end_into(space, start, interrupted, limit, &mut room, &mut steps);
             Ok(Trace {
                 first: None,
                 room,

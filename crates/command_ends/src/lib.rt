@@ -4,13 +4,13 @@
 #![tactic(auto)]
 
 mod answer;
+mod answering;
+mod arguments;
 mod status;
 mod streams;
-mod telling;
-mod words;
 
 pub use answer::{Answer, bad_line, fault_answer, read_input, silent_answer, text_answer};
+pub use answering::write_answer;
+pub use arguments::{Words, words_of};
 pub use status::{Status, end_program};
 pub use streams::{ReadFailure, read_all, write_all};
-pub use telling::tell;
-pub use words::{Words, words_of};

@@ -19,15 +19,15 @@ use Rattle.unwinding_frames.specs.declared.abi.TheConstants.UnwindReasonCode.{HA
 use Rattle.unwind_definitions.specs.Expressions.{evaluation}
 use Rattle.unwinding_frames.specs.FrameValue.{FrameValue}
 use Rattle.unwinding_frames.specs.OneLine as one
-use Rattle.unwinding_frames.specs.Passes.{Marked, without_mark, Answering, LineEnd, RanOut, Decides, Fails, Crowded, is_code, by_personality, cleanup_actions, cleanup_end, mark_of, turn_asked, turn_seen, goes, answer_of_personality}
+use Rattle.unwinding_frames.specs.Passes.{Marked, without_mark, Answering, LineEnd, RanOut, Decides, Fails, Crowded, is_code, by_personality, cleanup_actions, cleanup_end, mark_of, visit_asked, visit_seen, goes, answer_of_personality}
 use Rattle.unwinding_frames.specs.Passes as any
 use Rattle.unwinding_frames.specs.Personalities.{Answer, search_answer, action_seen, rust_answers}
 use Rattle.unwinding_frames.specs.Seen.{Thrown}
-use Rattle.stack_deliver.specs.declared.answers.Outcome.TheVariants.{FatalPhase1}
-use Rattle.stack_steps.specs.declared.answers.DeliverError.{DeliverError}
-use Rattle.stack_steps.specs.declared.answers.DeliverError.TheVariants.{FrameLimit, PassLimit}
-use Rattle.stack_walks.specs.declared.outward.Phase.{Phase}
-use Rattle.stack_walks.specs.declared.outward.Phase.TheVariants as phase
+use Rattle.stack_deliver.specs.declared.outcome.Outcome.TheVariants.{FatalPhase1}
+use Rattle.stack_steps.specs.declared.error.DeliverError.{DeliverError}
+use Rattle.stack_steps.specs.declared.error.DeliverError.TheVariants.{FrameLimit, PassLimit}
+use Rattle.stack_walks.specs.declared.unwind.Phase.{Phase}
+use Rattle.stack_walks.specs.declared.unwind.Phase.TheVariants as phase
 use Rattle.delivery_laws.specs.AnyPasses.{marked_of, placed_routine, place_named, asked_with, seen_at, undoing_in, sees_in, stepping_in, rust_in, answer_left, Search, TakenBy, Untaken, search_end, search_stop, search_line, search_of, pass_end, FollowedBy, ResumedBy, IsSearchBy, IsPassBy, ArePassesBy, IsDeliveredAfter, IsDeliveredBy, IsDeliveryBy}
 use Rattle.stack_steps.specs.Modules.{SpaceValue}
 use Rattle.stack_steps.specs.Asking.{action_if_named, action_asked, arguments_of, named_table, or_terminate}
@@ -38,8 +38,8 @@ use Rattle.stack_steps.specs.declared.asking.FrameAction.{FrameAction}
 use Rattle.stack_steps.specs.declared.asking.FrameAction.TheVariants.{Nothing}
 use Rattle.stack_steps.specs.Languages.{asked_by_rust, frame_asks, is_taken, pad_of, rust_alone, selector_of}
 use Rattle.stack_steps.proofs.LanguageAsks.{asks_without_cxx}
-use Rattle.stack_walks.specs.Turns.{Line, Pass, Stop, cleaning, searching, Turn, Ends, Stops, Goes, stops, stop_by, turn_at, turn_in, turn_for, line_turn, line_for, pass_of, past_arguments, enters, mark_at, with_context}
-use Rattle.stack_deliver.specs.Passes.{PassEnd, Finishes, Elsewhere, end_at, end_by, end_of, cleanup_of, ending_at, cleanup_at, resume_at, CleanupsRun, with_cleanup, cleanup_and_rest, after_pass, passes_of}
+use Rattle.stack_walks.specs.FrameVisits.{Line, Pass, Stop, cleaning, searching, FrameVisit, Ends, Stops, Goes, stops, stop_by, visit_at, visit_in, visit_for, line_visit, line_for, pass_of, past_arguments, enters, mark_at, with_context}
+use Rattle.stack_deliver.specs.Passes.{PassEnd, Finishes, Cleanup, end_at, end_by, end_of, cleanup_of, ending_at, cleanup_at, resume_at, CleanupsRun, with_cleanup, cleanup_and_rest, after_pass, passes_of}
 use Rattle.stack_deliver.specs.StackDelivery.{DeliveryValue, delivery_after, delivery_at, delivery_to, delivery_by, delivery_through, stack_delivery}
 use Rattle.stack_deliver.specs.Resumes.{return_of}
 use Rattle.delivery_laws.specs.Personality.{landing_columns, InCleanup, AnswersCleanup}
@@ -170,7 +170,7 @@ module _ (space : SpaceValue) (row : RowInstructions → RowValue) (thrown : Thr
   abbrev AreAnswered : Phase → (Marked Context → UnwindAction) → Type 0
   AreAnswered ph acts = (x : Marked Context) (f : FrameAt) (routine : ℕ) (action : Action) → IsWhole x.context → IsSeen x f routine action → Answered ph (acts x) x f routine action
 
-  abbrev Turned : Phase → Marked Context → Result Turn DeliverError → any.Turn Context DeliverError (Unit {0}) → Type 0
+  abbrev Turned : Phase → Marked Context → Result FrameVisit DeliverError → any.FrameVisit Context DeliverError (Unit {0}) → Type 0
   Turned ph x (Ok Ends) g = g ≡ any.Ends tt (RanOut x)
   Turned ph x (Ok (Stops action past)) g =
       (code : UnwindReasonCode) × (left : Context) × (entered : Context) × (g ≡ any.Ends tt (Decides x code left entered)) ×
@@ -203,7 +203,7 @@ module _ (space : SpaceValue) (row : RowInstructions → RowValue) (thrown : Thr
           go (Err e) = refl
 
       abbrev Framed : FrameAt → Result Action DeliverError → Result (UnwindReasonCode × Context) DeliverError → Type 0
-      Framed f due answer = Turned ph x (result_map (stop_by ph) (result_map asked_by_rust due) >>= turn_at space.image x.context f) (turn_asked (undoing_in space) f x (tt, answer))
+      Framed f due answer = Turned ph x (result_map (stop_by ph) (result_map asked_by_rust due) >>= visit_at space.image x.context f) (visit_asked (undoing_in space) f x (tt, answer))
 
       abbrev acted : Result (Option (Result LanguagePlace StepFault)) DeliverError → Result Action DeliverError
       acted named = result_map (action_if_named space.image (address_of_call x.context.ra x.signal)) named
@@ -270,16 +270,16 @@ module _ (space : SpaceValue) (row : RowInstructions → RowValue) (thrown : Thr
 
       -- what the frame asks is what its table says by the rule of Rust
       asks_so : (f : FrameAt) → Framed f (action_asked space.image x.context x.signal f) (answer_of_personality p (acts x) f x) →
-          Turned ph x (turn_in (Some pass) space.image x.context x.signal (Some f)) (turn_asked (undoing_in space) f x (tt, answer_of_personality p (acts x) f x))
+          Turned ph x (visit_in (Some pass) space.image x.context x.signal (Some f)) (visit_asked (undoing_in space) f x (tt, answer_of_personality p (acts x) f x))
       asks_so f is =
-          subst (λ (r : Result FrameAction DeliverError). Turned ph x (result_map (stop_by ph) r >>= turn_at space.image x.context f) (turn_asked (undoing_in space) f x (tt, answer_of_personality p (acts x) f x)))
+          subst (λ (r : Result FrameAction DeliverError). Turned ph x (result_map (stop_by ph) r >>= visit_at space.image x.context f) (visit_asked (undoing_in space) f x (tt, answer_of_personality p (acts x) f x)))
           (sym (asks_without_cxx rust_alone space.image x.context x.signal f refl)) is
 
-      turned : Turned ph x (turn_for (Some pass) space x.context x.signal) (turn_seen (undoing_in space) (by_personality p acts) tt x (sees_in space x))
-      unfolding turn_for
+      turned : Turned ph x (visit_for (Some pass) space x.context x.signal) (visit_seen (undoing_in space) (by_personality p acts) tt x (sees_in space x))
+      unfolding visit_for
       turned = go (frame_of space x.context x.signal)
         where
-          go : (r : Result (Option FrameAt) DeliverError) → Turned ph x (r >>= turn_in (Some pass) space.image x.context x.signal) (turn_seen (undoing_in space) (by_personality p acts) tt x r)
+          go : (r : Result (Option FrameAt) DeliverError) → Turned ph x (r >>= visit_in (Some pass) space.image x.context x.signal) (visit_seen (undoing_in space) (by_personality p acts) tt x r)
           go (Ok None) = refl
           go (Ok (Some f)) = asks_so f (framed f)
           go (Err e) = refl
@@ -307,10 +307,10 @@ module _ (space : SpaceValue) (row : RowInstructions → RowValue) (thrown : Thr
 
     lined : (room : ℕ) (x : Marked Context) → IsWhole x.context → Lined (line_for (Some pass) space room x.context x.signal) (line_of room x)
     lined zero x whole = inr (refl, refl)
-    lined (suc room) x whole = go (turn_for (Some pass) space x.context x.signal) (turn_seen (undoing_in space) (by_personality p acts) tt x (sees_in space x)) (turned x whole) (λ y whole. lined room y whole)
+    lined (suc room) x whole = go (visit_for (Some pass) space x.context x.signal) (visit_seen (undoing_in space) (by_personality p acts) tt x (sees_in space x)) (turned x whole) (λ y whole. lined room y whole)
       where
-        go : (t : Result Turn DeliverError) (g : any.Turn Context DeliverError (Unit {0})) → Turned ph x t g → ((y : Marked Context) → IsWhole y.context → Lined (line_for (Some pass) space room y.context y.signal) (line_of room y)) →
-            Lined (line_turn x.context x.signal t (line_for (Some pass) space room)) (one.line_after (one.line_of (sees_in space) (undoing_in space) (by_personality p acts) room) x g)
+        go : (t : Result FrameVisit DeliverError) (g : any.FrameVisit Context DeliverError (Unit {0})) → Turned ph x t g → ((y : Marked Context) → IsWhole y.context → Lined (line_for (Some pass) space room y.context y.signal) (line_of room y)) →
+            Lined (line_visit x.context x.signal t (line_for (Some pass) space room)) (one.line_after (one.line_of (sees_in space) (undoing_in space) (by_personality p acts) room) x g)
         go (Ok Ends) g is later = rw is (refl, (x, refl))
         go (Ok (Stops wanted past)) g (code, left, entered, is, agrees) later = rw is (refl, (code, left, entered, refl, agrees))
         go (Ok (Goes next)) g (is, whole) later = rw is (preceded x (line_for (Some pass) space room next.context next.signal) (line_of room (marked_of next)) (later (marked_of next) whole))
@@ -353,7 +353,7 @@ module _ (space : SpaceValue) (row : RowInstructions → RowValue) (thrown : Thr
   -- ---- a cleanup pass
 
   abbrev IsWholeEnd : Result PassEnd DeliverError → Type 0
-  IsWholeEnd (Ok (Elsewhere pad entered)) = IsWhole entered
+  IsWholeEnd (Ok (Cleanup pad entered)) = IsWhole entered
   IsWholeEnd _ = Unit {0}
 
   module _ (kept : ℕ) where
@@ -381,7 +381,7 @@ module _ (space : SpaceValue) (row : RowInstructions → RowValue) (thrown : Thr
         at_pad stop code left entered None other = rw other (refl, tt)
         at_pad stop code left entered (Some pad) (installs, is, whole) = rw installs (marks (mark_at stop.context stop.interrupted == kept))
           where
-            marks : (b : Bool) → Passes (Ok (if b then Finishes (ending_at (enters stop.past thrown.word (selector_of stop.action) pad)) else Elsewhere pad (enters stop.past thrown.word (selector_of stop.action) pad))) (any.Installs entered b)
+            marks : (b : Bool) → Passes (Ok (if b then Finishes (ending_at (enters stop.past thrown.word (selector_of stop.action) pad)) else Cleanup pad (enters stop.past thrown.word (selector_of stop.action) pad))) (any.Installs entered b)
             marks true = rw is (refl, tt)
             marks false = rw is (refl, subst IsWhole is whole)
 
@@ -433,7 +433,7 @@ module _ (space : SpaceValue) (row : RowInstructions → RowValue) (thrown : Thr
         where
           go : (r : Result PassEnd DeliverError) → FollowedBy (λ pad entered due. due ≡ Err PassLimit) r (after_pass r (λ pad entered. Err PassLimit))
           go (Ok (Finishes ending)) = refl
-          go (Ok (Elsewhere pad entered)) = refl
+          go (Ok (Cleanup pad entered)) = refl
           go (Err e) = refl
       hold (suc places) start whole = (end_from start, is_pass limit start whole, go (end_from start) (passes_by_line limit start whole).1 (λ d whole. hold places d whole))
         where
@@ -444,7 +444,7 @@ module _ (space : SpaceValue) (row : RowInstructions → RowValue) (thrown : Thr
 
           go : (r : Result PassEnd DeliverError) → IsWholeEnd r → ((d : Context) → IsWhole d → ArePasses places d (passes places d)) → FollowedBy (Later places) r (after_pass r (later places))
           go (Ok (Finishes ending)) whole holds = refl
-          go (Ok (Elsewhere pad entered)) whole holds = resumes_by pad entered whole holds (return_of resumes pad)
+          go (Ok (Cleanup pad entered)) whole holds = resumes_by pad entered whole holds (return_of resumes pad)
           go (Err e) whole holds = refl
 
       pub only : (places : ℕ) (start : Context) (due : Result CleanupsRun DeliverError) → IsWhole start → ArePasses places start due → due ≡ passes places start
@@ -452,7 +452,7 @@ module _ (space : SpaceValue) (row : RowInstructions → RowValue) (thrown : Thr
         where
           go : (r : Result PassEnd DeliverError) → FollowedBy (λ pad entered due. due ≡ Err PassLimit) r due → due ≡ after_pass r (λ pad entered. Err PassLimit)
           go (Ok (Finishes ending)) e = e
-          go (Ok (Elsewhere pad entered)) e = e
+          go (Ok (Cleanup pad entered)) e = e
           go (Err e) same = same
       only (suc places) start due whole (end, is, follows) =
           go (end_from start) (passes_by_line limit start whole).1 (λ d rest whole. only places d rest whole) (subst (λ (r : Result PassEnd DeliverError). FollowedBy (Later places) r due) (pass_is limit start end whole is) follows)
@@ -464,7 +464,7 @@ module _ (space : SpaceValue) (row : RowInstructions → RowValue) (thrown : Thr
 
           go : (r : Result PassEnd DeliverError) → IsWholeEnd r → ((d : Context) (rest : Result CleanupsRun DeliverError) → IsWhole d → ArePasses places d rest → rest ≡ passes places d) → FollowedBy (Later places) r due → due ≡ after_pass r (later places)
           go (Ok (Finishes ending)) whole outer e = e
-          go (Ok (Elsewhere pad entered)) whole outer e = resumes_by pad entered whole outer (return_of resumes pad) e
+          go (Ok (Cleanup pad entered)) whole outer e = resumes_by pad entered whole outer (return_of resumes pad) e
           go (Err e) whole outer same = same
 
   -- ---- a delivery

@@ -14,12 +14,12 @@ use Rattle.unwinding_frames.specs.FrameValue.{FrameValue}
 use Rattle.unwinding_frames.specs.declared.abi.UnwindReasonCode.{UnwindReasonCode}
 use Rattle.unwinding_frames.specs.declared.abi.TheConstants.UnwindReasonCode.{CONTINUE_UNWIND, HANDLER_FOUND}
 use Rattle.unwinding_frames.specs.Personalities.{Asked, Answer, columns_at_pad, search_answer, answered_by, action_seen, rust_answers}
-use Rattle.stack_steps.specs.declared.answers.DeliverError.{DeliverError}
-use Rattle.stack_walks.specs.declared.outward.Phase.TheVariants as phase
+use Rattle.stack_steps.specs.declared.error.DeliverError.{DeliverError}
+use Rattle.stack_walks.specs.declared.unwind.Phase.TheVariants as phase
 use Rattle.stack_steps.specs.Asking.{or_terminate, action_if_named}
 use Rattle.stack_steps.specs.Elf.{table_if_named}
 use Rattle.stack_steps.specs.Languages.{asked_by_rust, is_taken}
-use Rattle.stack_walks.specs.Turns.{enters, stops}
+use Rattle.stack_walks.specs.FrameVisits.{enters, stops}
 use Rattle.delivery_laws.specs.Personality.{landing_columns, InSearch, InCleanup, IsAsked, AnswersCleanup, answer_for, code_of}
 use Rattle.stack_steps.proofs.ContextLemmas.{IsWhole, Holds, with_column-holds}
 

@@ -1,16 +1,16 @@
 -- What is answered over a space doesn't depend on which of its modules are prepared.
 use Rattle.std.proofs.Common.{◌≡◌, ℕ, zero, suc, Bool, false, List, Option, Some, None, Result, Ok, Err, refl, ap, ◌∙◌}
 use Rattle.unwind_arch.specs.declared.x86_64.Context.{Context}
-use Rattle.stack_steps.specs.declared.answers.DeliverError.{DeliverError}
-use Rattle.stack_steps.specs.declared.answers.DeliverError.TheVariants.{PassLimit}
+use Rattle.stack_steps.specs.declared.error.DeliverError.{DeliverError}
+use Rattle.stack_steps.specs.declared.error.DeliverError.TheVariants.{PassLimit}
 use Rattle.format_frames.specs.declared.machine.Stepped.{Stepped}
 use Rattle.stack_walks.specs.declared.room.Trail.{Trail}
 use Rattle.stack_steps.specs.Languages.{Languages, is_taken}
 use Rattle.stack_walks.specs.Lines.{line_after, line_of, with_first}
 use Rattle.stack_deliver.specs.StackDelivery.{delivery_at, delivery_by, delivery_to, delivery_through}
 use Rattle.stack_steps.specs.Modules.{Added, SpaceValue}
-use Rattle.stack_walks.specs.Turns.{Ends, Stops, Goes, Line, Pass, Stop, cleaning, searching, Turn, mark_at, line_for, line_turn, pass_of, turn_for, with_context}
-use Rattle.stack_deliver.specs.Passes.{Elsewhere, Finishes, CleanupsRun, PassEnd, cleanup_at, cleanup_of, end_of, after_pass, passes_of, resume_at, cleanup_and_rest, with_cleanup}
+use Rattle.stack_walks.specs.FrameVisits.{Ends, Stops, Goes, Line, Pass, Stop, cleaning, searching, FrameVisit, mark_at, line_for, line_visit, pass_of, visit_for, with_context}
+use Rattle.stack_deliver.specs.Passes.{Cleanup, Finishes, CleanupsRun, PassEnd, cleanup_at, cleanup_of, end_of, after_pass, passes_of, resume_at, cleanup_and_rest, with_cleanup}
 use Rattle.stack_deliver.specs.Resumes.{return_of}
 use Rattle.stack_steps.specs.Stepping.{frame_of, step_of}
 
@@ -31,15 +31,15 @@ module _ (s : SpaceValue) (added : List Added) where
       go (Ok None) outer = refl
       go (Ok (Some n)) outer = ap (with_first c) (outer n.context n.signal)
 
-  turn_same : (p : Option Pass) (c : Context) (interrupted : Bool) → turn_for p other c interrupted ≡ turn_for p s c interrupted
-  unfolding turn_for frame_of
-  turn_same p c interrupted = refl
+  visit_same : (p : Option Pass) (c : Context) (interrupted : Bool) → visit_for p other c interrupted ≡ visit_for p s c interrupted
+  unfolding visit_for frame_of
+  visit_same p c interrupted = refl
 
   pass_same : (p : Option Pass) (limit : ℕ) (c : Context) (interrupted : Bool) → line_for p other limit c interrupted ≡ line_for p s limit c interrupted
   pass_same p zero c interrupted = refl
-  pass_same p (suc room) c interrupted = ap (λ (r : Result Turn DeliverError). line_turn c interrupted r (line_for p other room)) (turn_same p c interrupted) ∙ go (turn_for p s c interrupted) (pass_same p room)
+  pass_same p (suc room) c interrupted = ap (λ (r : Result FrameVisit DeliverError). line_visit c interrupted r (line_for p other room)) (visit_same p c interrupted) ∙ go (visit_for p s c interrupted) (pass_same p room)
     where
-      go : (r : Result Turn DeliverError) → ((d : Context) (marked : Bool) → line_for p other room d marked ≡ line_for p s room d marked) → line_turn c interrupted r (line_for p other room) ≡ line_turn c interrupted r (line_for p s room)
+      go : (r : Result FrameVisit DeliverError) → ((d : Context) (marked : Bool) → line_for p other room d marked ≡ line_for p s room d marked) → line_visit c interrupted r (line_for p other room) ≡ line_visit c interrupted r (line_for p s room)
       go (Err e) outer = refl
       go (Ok Ends) outer = refl
       go (Ok (Stops action past)) outer = refl
@@ -59,7 +59,7 @@ module _ (s : SpaceValue) (added : List Added) where
 
         go : (r : Result PassEnd DeliverError) → ((d : Context) → passes_of languages other exception kept resumes limit places d ≡ passes_of languages s exception kept resumes limit places d) → after_pass r (λ pad entered. cleanup_and_rest (cleanup_at pad entered) (resume_at pad entered (return_of resumes pad)) (passes_of languages other exception kept resumes limit places)) ≡ after_pass r (λ pad entered. cleanup_and_rest (cleanup_at pad entered) (resume_at pad entered (return_of resumes pad)) (passes_of languages s exception kept resumes limit places))
         go (Ok (Finishes ending)) later = refl
-        go (Ok (Elsewhere pad entered)) later = again (cleanup_at pad entered) (resume_at pad entered (return_of resumes pad)) later
+        go (Ok (Cleanup pad entered)) later = again (cleanup_at pad entered) (resume_at pad entered (return_of resumes pad)) later
         go (Err e) later = refl
 
   pub delivery_same : (languages : Languages) (c : Context) (exception : ℕ) (resumes : List (ℕ × ℕ)) (limit : ℕ) → delivery_through languages other c exception resumes limit ≡ delivery_through languages s c exception resumes limit

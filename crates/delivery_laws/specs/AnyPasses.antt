@@ -21,15 +21,15 @@ use Rattle.unwinding_frames.specs.Personalities.{Asked, Answer, rust_answers}
 use Rattle.unwinding_frames.specs.Seen.{FrameSeen, Thrown, answering}
 use Rattle.format_frames.specs.declared.machine.Stepped.{Stepped}
 use Rattle.stack_walks.specs.declared.room.Trail.{Trail}
-use Rattle.stack_deliver.specs.declared.answers.Outcome.{Outcome}
-use Rattle.stack_deliver.specs.declared.answers.Outcome.TheVariants.{EndOfStack, FatalPhase1}
-use Rattle.stack_steps.specs.declared.answers.DeliverError.{DeliverError}
-use Rattle.stack_steps.specs.declared.answers.DeliverError.TheVariants.{FrameLimit, PassLimit}
+use Rattle.stack_deliver.specs.declared.outcome.Outcome.{Outcome}
+use Rattle.stack_deliver.specs.declared.outcome.Outcome.TheVariants.{EndOfStack, FatalPhase1}
+use Rattle.stack_steps.specs.declared.error.DeliverError.{DeliverError}
+use Rattle.stack_steps.specs.declared.error.DeliverError.TheVariants.{FrameLimit, PassLimit}
 use Rattle.stack_deliver.specs.StackDelivery.{DeliveryValue, delivery_after, no_delivery}
 use Rattle.stack_steps.specs.Modules.{SpaceValue}
-use Rattle.stack_walks.specs.Turns.{Stop, past_arguments, pass_of, mark_at, searching}
-use Rattle.stack_deliver.specs.Passes.{PassEnd, Finishes, Elsewhere, CleanupsRun, fatal, ending_at, cleanup_at, resume_at, with_cleanup}
-use Rattle.stack_walks.specs.Turns as stopped
+use Rattle.stack_walks.specs.FrameVisits.{Stop, past_arguments, pass_of, mark_at, searching}
+use Rattle.stack_deliver.specs.Passes.{PassEnd, Finishes, Cleanup, CleanupsRun, fatal, ending_at, cleanup_at, resume_at, with_cleanup}
+use Rattle.stack_walks.specs.FrameVisits as stopped
 use Rattle.delivery_laws.specs.Personality.{landing_columns}
 use Rattle.stack_deliver.specs.Resumes.{return_of}
 use Rattle.memory_image.specs.Results.{result_map}
@@ -134,7 +134,7 @@ search_end stack_pointer visited Crowded = Err FrameLimit
 -- of a context that is installed is the landing pad.
 abbrev pub pass_end : any.Outcome Context DeliverError → Result PassEnd DeliverError
 pass_end (Installs entered true) = Ok (Finishes (ending_at entered))
-pass_end (Installs entered false) = Ok (Elsewhere entered.ra entered)
+pass_end (Installs entered false) = Ok (Cleanup entered.ra entered)
 pass_end (Gives code None) = Ok (Finishes fatal)
 pass_end (Gives code (Some any.FrameLimit)) = Err FrameLimit
 pass_end (Gives code (Some (Fault e))) = Err e
@@ -142,7 +142,7 @@ pass_end (Gives code (Some (Fault e))) = Err e
 -- what passes come to of which the first ends so: nothing more, or what follows its cleanup
 abbrev pub FollowedBy : (ℕ → Context → Result CleanupsRun DeliverError → Type 0) → Result PassEnd DeliverError → Result CleanupsRun DeliverError → Type 0
 FollowedBy later (Ok (Finishes ending)) passed = passed ≡ Ok (record { trail = []; ending = ending })
-FollowedBy later (Ok (Elsewhere pad entered)) passed = later pad entered passed
+FollowedBy later (Ok (Cleanup pad entered)) passed = later pad entered passed
 FollowedBy later (Err e) passed = passed ≡ Err e
 
 -- a cleanup is put on the trail, and the later passes start at the context after it

@@ -14,7 +14,7 @@ use Rattle.unwinding_frames.specs.ContextSeen.{frame_seen}
 use Rattle.unwinding_frames.specs.FrameValue.{FrameValue}
 use Rattle.unwinding_frames.specs.Personalities.{Asked, Answer, Landing, rust_answers}
 use Rattle.stack_steps.specs.Asking.{described_action}
-use Rattle.stack_walks.specs.Turns.{enters}
+use Rattle.stack_walks.specs.FrameVisits.{enters}
 
 -- The columns of the return address and of the two registers that a landing pad finds its arguments in, RAX and RDX.
 -- System V x86-64 psABI, table of DWARF register numbers.

@@ -18,11 +18,11 @@ use Rattle.eh_frame.proofs.Sharing.{shared_stands}
 use Rattle.eh_frame.specs.Search.{Precede}
 
 module _ (bases : Bases) (table : Input) where
-  pub precede_push : (from : ℕ) (es : List Entry) (offset : ℕ) (e : Entry) (next : ℕ) → Precede bases table 0 from es offset → entry_at bases table offset ≡ Ok (Some (record { entry = e; next = next })) → Precede bases table 0 from (es ++ e ∷ []) next
+  pub precede_push : (from : ℕ) (es : List Entry) (offset : ℕ) (e : Entry) (next : ℕ) → Precede bases table from es offset → entry_at bases table offset ≡ Ok (Some (record { entry = e; next = next })) → Precede bases table from (es ++ e ∷ []) next
   precede_push from [] offset e next precede at = (next, subst (λ o. entry_at bases table o ≡ Ok (Some (record { entry = e; next = next }))) (sym precede) at, refl)
   precede_push from (f ∷ es) offset e next precede at = (precede.0, precede.1, precede_push precede.0 es offset e next precede.2 at)
 
-  pub all_precede : (from : ℕ) (es : List Entry) (offset : ℕ) → Precede bases table 0 from es offset → entry_at bases table offset ≡ Ok None → AreEntries bases table from es
+  pub all_precede : (from : ℕ) (es : List Entry) (offset : ℕ) → Precede bases table from es offset → entry_at bases table offset ≡ Ok None → AreEntries bases table from es
   all_precede from [] offset precede at = subst (λ o. entry_at bases table o ≡ Ok None) (sym precede) at
   all_precede from (e ∷ es) offset precede at = (precede.0, precede.1, all_precede precede.0 es offset precede.2 at)
 
@@ -36,7 +36,7 @@ module _ (bases : Bases) (table : Input) where
   pub record IsReadTo (cies : List CodeCie) (listed : List PreparedFunction) (offset : ℕ) : Type 0 where
     pub within : offset ≤ length table.bytes
     pub done : List Entry
-    pub precede : Precede bases table 0 0 done offset
+    pub precede : Precede bases table 0 done offset
     pub list : IsListOf bases table cies listed (nonempty done)
 
   pub none_read : (cies : List CodeCie) (listed : List PreparedFunction) → cies ≡ [] → listed ≡ [] → IsReadTo cies listed 0

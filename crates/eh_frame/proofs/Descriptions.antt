@@ -13,7 +13,7 @@ use Rattle.eh_frame.specs.Shared.{StandsIn}
 use Rattle.eh_frame.specs.EntryViews.{cie_of}
 use Rattle.eh_frame.specs.declared.cie.Cie.{Cie as CodeCie}
 use Rattle.eh_frame.specs.declared.fde_list.FdeList.{FdeList}
-use Rattle.eh_frame.specs.declared.listed_fde.ListedFde.{ListedFde}
+use Rattle.eh_frame.specs.declared.indexed_fde.IndexedFde.{IndexedFde}
 use Rattle.eh_frame.specs.declared.prepared.PreparedFunction.{PreparedFunction}
 use Rattle.eh_frame.proofs.EntryParts.{no_common, no_fde, whole_common, whole_fde}
 use Rattle.eh_frame.proofs.ListingFdes.{cie_added, cie_kept, function_added}
@@ -27,16 +27,16 @@ common_listed bases table offset b rest read old new same true (code, is, more) 
 )
 common_listed bases table offset b rest read old new same false (e, is) = (e, no_common bases table offset b rest read e is)
 
-pub description_added : (bases : Bases) (cies : List CodeCie) (i offset : ℕ) (body : Input) (code : CodeCie) (fde : ListedFde) (f : PreparedFunction) (old new : List PreparedFunction) → cie_in cies i ≡ cie_of code → i < length cies →
+pub description_added : (bases : Bases) (cies : List CodeCie) (i offset : ℕ) (body : Input) (code : CodeCie) (fde : IndexedFde) (f : PreparedFunction) (old new : List PreparedFunction) → cie_in cies i ≡ cie_of code → i < length cies →
     fde_body bases (cie_of code) offset body ≡ Ok (fde_with (cie_of code) fde) → IsTold (cie_of code) fde → fde.cie ≡ i → f.fde ≡ fde → new ≡ cond (nat_lt 0 fde.len) (old ++ f ∷ []) old → AddsFde (fde_body bases (cie_in cies i) offset body) cies old true new
 description_added bases cies i offset body code fde f old new there lt reads told at is more =
-    let own : f.fde.cie ≡ i = ap (λ (g : ListedFde). g.cie) is ∙ at in
+    let own : f.fde.cie ≡ i = ap (λ (g : IndexedFde). g.cie) is ∙ at in
     let same : cie_in cies f.fde.cie ≡ cie_of code = ap (cie_in cies) own ∙ there in
     let view : fde_with (cie_of code) fde ≡ function_in cies f = ap (fde_with (cie_of code)) (sym is) ∙ ap (λ (k : Cie). fde_with k f.fde) (sym same) in (
       f,
       ap (λ (k : Cie). fde_body bases k offset body) there ∙ reads ∙ ap (λ (x : Fde). let r : Result Fde Fault = Ok x in r) view,
       record { within = omega arith; told = subst (λ (k : Cie). IsTold k f.fde) (sym same) (subst (IsTold (cie_of code)) (sym is) told) },
-      more ∙ ap (λ (g : ListedFde). cond (nat_lt 0 g.len) (old ++ f ∷ []) old) (sym is),
+      more ∙ ap (λ (g : IndexedFde). cond (nat_lt 0 g.len) (old ++ f ∷ []) old) (sym is),
     )
 
 module _ (bases : Bases) (table : Input) (offset : ℕ) (b rest : Input) (id place index : ℕ) (read : number w32 b ≡ Ok (id, rest)) (other : id ≡ 0 → ⊥) (stands : place ≡ b.offset) (within : id ≤ place)

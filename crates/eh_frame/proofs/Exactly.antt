@@ -28,7 +28,7 @@ module _ (bases : Bases) (table : Input) where
       let next = ap (λ (g : Found). g.next) both in
       ap (λ x. x ∷ es) same ∙ ap (λ (l : List Entry). f ∷ l) (same_entries b.0 es fs (subst (λ n. AreEntries bases table n es) next a.2) b.2)
 
-  none_unread : (from : ℕ) (es before : List Entry) (offset : ℕ) (e : Fault) → AreEntries bases table from es → Precede bases table 0 from before offset → entry_at bases table offset ≡ Err e → ⊥
+  none_unread : (from : ℕ) (es before : List Entry) (offset : ℕ) (e : Fault) → AreEntries bases table from es → Precede bases table from before offset → entry_at bases table offset ≡ Err e → ⊥
   none_unread from [] [] offset e are precede unread = let c = sym are ∙ ap (entry_at bases table) precede ∙ unread in cc
   none_unread from (g ∷ es) [] offset e are precede unread = let c = sym are.1 ∙ ap (entry_at bases table) precede ∙ unread in cc
   none_unread from [] (b ∷ bs) offset e are precede unread = let c = sym are ∙ precede.1 in cc

@@ -14,7 +14,7 @@ use Rattle.frame_rows.specs.declared.row_table.RowRange.{RowRange}
 use Rattle.eh_frame.specs.Index.{AreKept, AscendApart, Described, HasRows, IsIndex, IsRowedBy, KeepsRows, common_program, described_fde, described_in, end_of, own_program, start_of, rows_due, rules_due}
 use Rattle.eh_frame.specs.FdeLists.{IsListedIn, fde_in}
 use Rattle.eh_frame.specs.declared.cie.Cie.{Cie as CodeCie}
-use Rattle.eh_frame.specs.declared.listed_fde.ListedFde.{ListedFde}
+use Rattle.eh_frame.specs.declared.indexed_fde.IndexedFde.{IndexedFde}
 use Rattle.eh_frame.specs.declared.prepared.PreparedFunction.{PreparedFunction}
 
 -- ---- lists
@@ -103,7 +103,7 @@ module _ (bases : Bases) (fdes : List Fde) (limits : RowLimits) (cies : List Cod
   abbrev pub Added : Fde → KeptRows → RowRange → KeptRows → Type 0
   Added fde old range new = IsAdded limits fde.start (end_of fde) (common_program bases fde) (own_program bases fde) old range new
 
-  module _ (i : ℕ) (rows : KeptRows) (starts : List ℕ) (functions : List PreparedFunction) (k : IsKeeping i rows starts functions) (code : ListedFde) (lt : i < length fdes) (is : fde_in cies code ≡ get_or fdes i (fde_in cies code)) (listed : IsListedIn cies code) where
+  module _ (i : ℕ) (rows : KeptRows) (starts : List ℕ) (functions : List PreparedFunction) (k : IsKeeping i rows starts functions) (code : IndexedFde) (lt : i < length fdes) (is : fde_in cies code ≡ get_or fdes i (fde_in cies code)) (listed : IsListedIn cies code) where
     abbrev fde : Fde
     fde = fde_in cies code
 

@@ -14,7 +14,7 @@ use Rattle.eh_frame.specs.Shared.{StandsIn, cie_of_entry}
 use Rattle.eh_frame.specs.EntryViews.{cie_of}
 use Rattle.eh_frame.specs.declared.cie.Cie.{Cie as CodeCie}
 use Rattle.eh_frame.specs.declared.fde_list.FdeList.{FdeList}
-use Rattle.eh_frame.specs.declared.listed_fde.ListedFde.{ListedFde}
+use Rattle.eh_frame.specs.declared.indexed_fde.IndexedFde.{IndexedFde}
 use Rattle.eh_frame.specs.declared.prepared.PreparedFunction.{PreparedFunction}
 
 -- an entry of no use, past the end of a list
@@ -30,7 +30,7 @@ no_cie = record {
   program = record { base = 0; offset = 0; bytes = [] };
 }
 
-abbrev pub fde_with : Cie → ListedFde → Fde
+abbrev pub fde_with : Cie → IndexedFde → Fde
 fde_with cie f = record {
   offset = f.offset;
   cie = cie;
@@ -43,15 +43,15 @@ fde_with cie f = record {
 abbrev pub cie_in : List CodeCie → ℕ → Cie
 cie_in cies i = slice_index_or (map cie_of cies) i no_cie
 
-abbrev pub fde_in : List CodeCie → ListedFde → Fde
+abbrev pub fde_in : List CodeCie → IndexedFde → Fde
 fde_in cies f = fde_with (cie_in cies f.cie) f
 
 -- a description has a language table where its common information entry says so
-abbrev pub IsTold : Cie → ListedFde → Type 0
+abbrev pub IsTold : Cie → IndexedFde → Type 0
 IsTold cie f = is_some f.lsda ≡ is_pointing cie.letters.language
 
 -- a description's common information entry is in a list
-pub record IsListedIn (cies : List CodeCie) (f : ListedFde) : Type 0 where
+pub record IsListedIn (cies : List CodeCie) (f : IndexedFde) : Type 0 where
   pub within : f.cie < length cies
   pub told : IsTold (cie_in cies f.cie) f
 

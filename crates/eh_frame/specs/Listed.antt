@@ -23,7 +23,7 @@ SharesAddress fdes = (pc : ℕ) × (2 ≤ count_by (λ fde. covers_pc fde pc) fd
 pub record HasUnreadable (bases : Bases) (table : Input) : Type 0 where
   pub before : List Entry
   pub offset : ℕ
-  pub precede : Precede bases table 0 0 before offset
+  pub precede : Precede bases table 0 before offset
   pub fault : Fault
   pub unread : entry_at bases table offset ≡ Err fault
 

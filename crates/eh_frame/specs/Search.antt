@@ -7,18 +7,19 @@ use Rattle.unwind_definitions.specs.Entries.{Fde, Entry, AFde, entry_at, AreEntr
 use Rattle.unwind_definitions.specs.Row.{covers_pc}
 use Rattle.unwind_definitions.specs.Scan.{fdes_of, first_covering}
 
-module _ (bases : Bases) (table : Input) (pc : ℕ) where
+module _ (bases : Bases) (table : Input) where
   -- entries that can be read, each after the one before, from an offset on and up to another
   abbrev pub Precede : ℕ → List Entry → ℕ → Type 0
   Precede from [] end = from ≡ end
   Precede from (e ∷ es) end = (next : ℕ) × (entry_at bases table from ≡ Ok (Some (record { entry = e; next = next }))) × Precede next es end
 
+module _ (bases : Bases) (table : Input) (pc : ℕ) where
   -- a description contains the address, and no entry before it does
   pub record IsFirst (from : ℕ) (fde : Fde) : Type 0 where
     pub before : List Entry
     pub offset : ℕ
     pub next : ℕ
-    pub precede : Precede from before offset
+    pub precede : Precede bases table from before offset
     pub none_before : first_covering (fdes_of before) pc ≡ None
     pub stands : entry_at bases table offset ≡ Ok (Some (record { entry = AFde fde; next = next }))
     pub contains : IsTrue (covers_pc fde pc)
@@ -27,7 +28,7 @@ module _ (bases : Bases) (table : Input) (pc : ℕ) where
   pub record IsUnreadable (from : ℕ) (fault : Fault) : Type 0 where
     pub before : List Entry
     pub offset : ℕ
-    pub precede : Precede from before offset
+    pub precede : Precede bases table from before offset
     pub none_before : first_covering (fdes_of before) pc ≡ None
     pub unread : entry_at bases table offset ≡ Err fault
 

@@ -204,7 +204,7 @@ impl<'a> EhFrame<'a> {
         if id > origin {
             return Ok(false);
         }
-        match self.list_named(origin - id, bases, list)? {
+        match self.collect_by_cie(origin - id, bases, list)? {
             Some(cie) => list.push_fde(cie, offset, input, bases),
             None => Ok(false),
         }
@@ -213,7 +213,7 @@ impl<'a> EhFrame<'a> {
     // The index of the common information entry at an offset, which is read and listed where it
     // isn't yet. `None` where it can't be read.
     #[inline(always)]
-    fn list_named(
+    fn collect_by_cie(
         &self,
         offset: u64,
         bases: &Bases,
@@ -227,13 +227,13 @@ impl<'a> EhFrame<'a> {
     {
         match list.recent(offset) {
             Some(index) => Ok(Some(index)),
-            None => self.list_other(offset, bases, list),
+            None => self.collect_by_other_cie(offset, bases, list),
         }
     }
 
     // The same where it isn't one of the last two.
     #[inline(never)]
-    fn list_other(
+    fn collect_by_other_cie(
         &self,
         offset: u64,
         bases: &Bases,

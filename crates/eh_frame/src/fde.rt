@@ -10,7 +10,7 @@ ghost use Rattle.eh_frame.specs.Letters.{letters_of};
 
 use crate::cie::Cie;
 use crate::entries::EhFrame;
-use crate::listed_fde::ListedFde;
+use crate::indexed_fde::IndexedFde;
 use encoded_pointers::{Bases, Cursor, Pointer};
 use frame_rows::{Row, RowRoom, RowWalk};
 use unwind_definitions::Error;
@@ -55,7 +55,7 @@ impl<'a> Fde<'a> {
             (fde_body (bases_of bases.now) (cie_of cie.now) offset (at body.entry)) }
     {
         // it stands alone here, and is in no list
-        let listed = ListedFde::read(cie, 0, offset, body, bases)?;
+        let listed = IndexedFde::read(cie, 0, offset, body, bases)?;
         Ok(Fde::with_cie(*cie, &listed))
     }
 
@@ -72,7 +72,7 @@ impl<'a> Fde<'a> {
         ensures { Answers (option_map fde_of) result
             (covering_body (bases_of bases.now) (cie_of cie.now) offset (at body.entry) pc) }
     {
-        let listed = ListedFde::read(cie, 0, offset, body, bases)?;
+        let listed = IndexedFde::read(cie, 0, offset, body, bases)?;
         if listed.contains(pc) {
             return Ok(Some(Fde::with_cie(*cie, &listed)));
         }
@@ -116,7 +116,7 @@ impl<'a> Fde<'a> {
 
     // A description of a list, with its common information entry.
     #[inline(always)]
-    pub(crate) fn with_cie(cie: Cie<'a>, listed: &ListedFde<'a>) -> Fde<'a>
+    pub(crate) fn with_cie(cie: Cie<'a>, listed: &IndexedFde<'a>) -> Fde<'a>
         requires { IsTold (cie_of cie) listed.now }
         ensures { fde_of result ≡ fde_with (cie_of cie.entry) listed.now }
     {

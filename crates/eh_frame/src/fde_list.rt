@@ -7,7 +7,7 @@ ghost use Rattle.encoded_pointers.specs.PointerViews.{bases_of};
 ghost use Rattle.eh_frame.specs.FdeLists.{AddsFde, cie_in};
 
 use crate::cie::Cie;
-use crate::listed_fde::ListedFde;
+use crate::indexed_fde::IndexedFde;
 use crate::prepared::PreparedFunction;
 use encoded_pointers::{Bases, Cursor};
 use std::alloc::{AllocError, Global};
@@ -53,7 +53,7 @@ impl<'a> FdeList<'a> {
         if !self.stands_at(index, offset) {
             return None;
         }
-        self.turn_to(index);
+        self.move_to(index);
         Some(index)
     }
 
@@ -68,12 +68,12 @@ impl<'a> FdeList<'a> {
         if !self.stands_at(index, offset) {
             return None;
         }
-        self.turn_to(index);
+        self.move_to(index);
         Some(index)
     }
 
     // Makes a common information entry the last that was found.
-    fn turn_to(&mut self, index: usize)
+    fn move_to(&mut self, index: usize)
         ensures cies { self.new.cies ≡ self.old.cies }
         ensures fdes { self.new.fdes ≡ self.old.fdes }
     {
@@ -135,7 +135,7 @@ impl<'a> FdeList<'a> {
             self.old.cies.items self.old.fdes.items readable self.new.fdes.items) }
         ensures cies { self.new.cies ≡ self.old.cies }
     {
-        match ListedFde::read(&self.cies[cie], cie, offset, body, bases) {
+        match IndexedFde::read(&self.cies[cie], cie, offset, body, bases) {
             Ok(fde) => {
                 if fde.len > 0 {
                     self.fdes.push(PreparedFunction::without_rows(fde))?;

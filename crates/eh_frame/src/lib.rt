@@ -35,17 +35,17 @@
 #![tactic(auto)]
 
 mod augmentation;
-mod begun_cies;
 mod cie;
+mod cie_cache;
 mod entries;
 mod fde;
 mod fde_list;
 mod header;
 mod header_lists;
 mod header_search;
+mod indexed_fde;
 mod known_cies;
 mod laws;
-mod listed_fde;
 mod listing;
 mod prepared;
 mod sorting;

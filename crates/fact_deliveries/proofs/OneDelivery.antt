@@ -4,7 +4,7 @@ use Rattle.memory_image.specs.Image.{IsLaidOut}
 use Rattle.unwind_definitions.specs.State.{State}
 use Rattle.frame_facts.specs.FactDeliveries.{AskedFrame, delivery_to}
 use Rattle.unwind_arch.specs.declared.x86_64.Context.{Context}
-use Rattle.stack_steps.specs.declared.answers.DeliverError.{DeliverError}
+use Rattle.stack_steps.specs.declared.error.DeliverError.{DeliverError}
 use Rattle.stack_steps.specs.Modules.{SpaceValue, AreApart}
 use Rattle.stack_deliver.specs.StackDelivery.{DeliveryValue, stack_delivery}
 use Rattle.stack_deliver.specs.StateViews.{delivery_shown}

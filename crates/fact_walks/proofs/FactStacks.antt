@@ -9,7 +9,7 @@ use Rattle.frame_facts.specs.FactChains.{FactFrame, address_asked, chain_states,
 use Rattle.format_definitions.specs.Modules.{IsUncoveredBy}
 use Rattle.unwind_arch.specs.declared.x86_64.Context.{Context}
 use Rattle.unwind_arch.specs.ContextViews.{columns_of}
-use Rattle.stack_steps.specs.declared.answers.DeliverError.{DeliverError}
+use Rattle.stack_steps.specs.declared.error.DeliverError.{DeliverError}
 use Rattle.stack_steps.specs.Modules.{SpaceValue, AreApart, AreElf}
 use Rattle.stack_steps.specs.SpaceViews.{process_of, formats_of}
 use Rattle.stack_steps.specs.KnownStacks.{IsKnownStack}

@@ -103,7 +103,7 @@ impl<E: EhFrameFinder> FDEFinder for CustomFinder<E> {
         steps: &mut Steps<L>,
     ) -> Option<FDESearchResult<'a>> {
         let info = self.finder.as_ref()?.find(pc)?;
-        find_named(image, pc, info, steps)
+        find_by_tables(image, pc, info, steps)
     }
 
     ghost contains = { λ finder image pc found ticks. named_contains E.names finder image pc found
@@ -111,7 +111,7 @@ impl<E: EhFrameFinder> FDEFinder for CustomFinder<E> {
 }
 
 /// The description that a table of a module finds: a frame table by a scan, a header by its table.
-pub fn find_named<'a, L: Ledger>(
+pub fn find_by_tables<'a, L: Ledger>(
     image: &MemoryImage<'a>,
     pc: u64,
     info: FrameInfo,

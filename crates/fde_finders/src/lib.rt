@@ -17,7 +17,8 @@ mod registry;
 mod tables;
 
 pub use custom::{
-    CustomFinder, EhFrameFinder, FrameInfo, FrameInfoKind, SetCustomEhFrameFinderError, find_named,
+    CustomFinder, EhFrameFinder, FrameInfo, FrameInfoKind, SetCustomEhFrameFinderError,
+    find_by_tables,
 };
 pub use find_fde::{FDEFinder, FDESearchResult};
 pub use fixed::StaticFinder;

@@ -26,9 +26,7 @@ pub(crate) fn relative_to(text: Option<u64>, data_base: Option<u64>) -> Bases
     Bases {
         text,
         data_base,
-        func: None,
-        hdr: None,
-        frame: None,
+        ..Bases::default()
     }
 }
 
@@ -117,7 +115,7 @@ fn search_table<'a, L: Ledger>(
     ensures ticks { (taken : ℕ) × (steps.new.number ≡ steps.old.number + taken)
         × SearchTakes (pairs_in (option_map pairs_of table.entry)) taken }
 {
-    let fde = match listed_fde(table, &eh_frame, &bases, pc, steps) {
+    let fde = match fde_by_header(table, &eh_frame, &bases, pc, steps) {
         Some(fde) => fde,
         None => eh_frame.fde_for_address(&bases, pc).ok()?,
     };
@@ -129,7 +127,7 @@ fn search_table<'a, L: Ledger>(
 }
 
 // The description that a header's table finds, where there is a table and it gives no error.
-fn listed_fde<'a, L: Ledger>(
+fn fde_by_header<'a, L: Ledger>(
     table: Option<HdrTable<'a>>,
     eh_frame: &EhFrame<'a>,
     bases: &Bases,

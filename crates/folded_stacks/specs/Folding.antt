@@ -4,7 +4,7 @@ use Rattle.std.specs.List.{count_by, filter_map}
 use Rattle.unwind_definitions.specs.State.{State}
 use Rattle.unwind_definitions.specs.Chain.{Call, states_of}
 use Rattle.unwind_arch.specs.declared.x86_64.Context.{Context}
-use Rattle.stack_steps.specs.declared.answers.DeliverError.{DeliverError}
+use Rattle.stack_steps.specs.declared.error.DeliverError.{DeliverError}
 use Rattle.stack_steps.specs.Modules.{SpaceValue}
 use Rattle.stack_walks.specs.Lines.{line_of}
 use Rattle.folded_stacks.specs.declared.samples.Sample.{Sample}

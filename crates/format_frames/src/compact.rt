@@ -301,11 +301,8 @@ pub(crate) fn description_in<'a>(
 {
     let eh_frame = EhFrame::new(image.bytes_from(frames), frames);
     let bases = Bases {
-        text: None,
-        data_base: None,
-        func: None,
-        hdr: None,
         frame: Some(frames),
+        ..Bases::default()
     };
     let fde = eh_frame.fde_at(&bases, u64::from(offset))?;
     Ok(FDESearchResult {

@@ -4,7 +4,7 @@ use Rattle.frame_rows.specs.declared.begun.BegunProgram.{BegunProgram}
 use Rattle.frame_rows.specs.declared.begun.BegunPrograms.{BegunPrograms as Programs}
 
 abbrev pub last : Programs → BegunProgram
-last programs = if programs.is_turned then programs.second else programs.first
+last programs = if programs.is_swapped then programs.second else programs.first
 
 abbrev pub before_last : Programs → BegunProgram
-before_last programs = if programs.is_turned then programs.first else programs.second
+before_last programs = if programs.is_swapped then programs.first else programs.second

@@ -47,7 +47,7 @@ pub(crate) struct BegunPrograms<'a> {
     first: BegunProgram<'a>,
     second: BegunProgram<'a>,
     // whether the second is the last
-    is_turned: bool,
+    is_swapped: bool,
 }
 
 impl<'a> BegunPrograms<'a> {
@@ -56,7 +56,7 @@ impl<'a> BegunPrograms<'a> {
         BegunPrograms {
             first: BegunProgram::new(alloc),
             second: BegunProgram::new(alloc),
-            is_turned: false,
+            is_swapped: false,
         }
     }
 
@@ -64,7 +64,7 @@ impl<'a> BegunPrograms<'a> {
     pub(crate) fn last(&self) -> &BegunProgram<'a>
         ensures { result.now ≡ last self.now }
     {
-        if self.is_turned {
+        if self.is_swapped {
             &self.second
         } else {
             &self.first
@@ -76,7 +76,7 @@ impl<'a> BegunPrograms<'a> {
         ensures last { last self.new ≡ before_last self.old }
         ensures before { before_last self.new ≡ last self.old }
     {
-        self.is_turned = !self.is_turned;
+        self.is_swapped = !self.is_swapped;
     }
 
     /// Puts what a machine ended with in place of the last one.
@@ -86,7 +86,7 @@ impl<'a> BegunPrograms<'a> {
         ensures blank { (last self.new).known ≡ [] }
         ensures before { before_last self.new ≡ before_last self.old }
     {
-        if self.is_turned {
+        if self.is_swapped {
             self.second.put(machine, fault);
         } else {
             self.first.put(machine, fault);
@@ -104,7 +104,7 @@ impl<'a> BegunPrograms<'a> {
         ensures notes { Notes (last self.old).known known.entry (last self.new).known }
         ensures before { before_last self.new ≡ before_last self.old }
     {
-        if self.is_turned {
+        if self.is_swapped {
             self.second.known.note(known)
         } else {
             self.first.known.note(known)

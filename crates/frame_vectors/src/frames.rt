@@ -238,11 +238,8 @@ fn a_frame_tells_what_was_found(rt: HostRuntime) -> Result<(), Fail> {
         &rt,
         frame.bases(),
         Bases {
-            text: None,
-            data_base: None,
-            func: None,
-            hdr: None,
             frame: Some(0x50_0000),
+            ..Bases::default()
         },
     );
     expect_equal(

@@ -15,8 +15,6 @@ mod formats;
 #[cfg(test)]
 mod frames;
 #[cfg(test)]
-mod fronts;
-#[cfg(test)]
 mod headers;
 #[cfg(test)]
 mod languages;
@@ -34,3 +32,5 @@ mod rooms;
 mod runs;
 #[cfg(test)]
 mod stops;
+#[cfg(test)]
+mod walk_ends;

@@ -6,8 +6,8 @@ use Rattle.unwind_definitions.specs.Function.{Function}
 use Rattle.unwind_definitions.specs.Chain.{Call}
 use Rattle.unwind_definitions.specs.Delivery as described
 use Rattle.unwind_arch.specs.declared.x86_64.Context.{Context}
-use Rattle.stack_deliver.specs.declared.answers.Outcome.{Outcome}
-use Rattle.stack_deliver.specs.declared.answers.Outcome.TheVariants.{Installed, EndOfStack, FatalPhase1, FatalPhase2}
+use Rattle.stack_deliver.specs.declared.outcome.Outcome.{Outcome}
+use Rattle.stack_deliver.specs.declared.outcome.Outcome.TheVariants.{Installed, EndOfStack, FatalPhase1, FatalPhase2}
 use Rattle.stack_steps.specs.Modules.{SpaceValue}
 use Rattle.stack_deliver.specs.Delivering.{StartsValidChain}
 use Rattle.stack_deliver.specs.StackDelivery.{DeliveryValue}

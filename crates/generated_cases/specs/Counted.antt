@@ -1,6 +1,6 @@
 -- What the delivery over a generated chain counts.
 use Rattle.std.specs.Prelude.{◌≡◌, ℕ, ◌+◌, ◌-◌, ◌*◌, ◌/◌, ◌^◌, ◌<◌, ◌≤◌}
-use Rattle.stack_deliver.specs.declared.answers.Outcome.TheVariants.{Installed}
+use Rattle.stack_deliver.specs.declared.outcome.Outcome.TheVariants.{Installed}
 use Rattle.stack_report.specs.declared.summary.Summary.{Summary}
 
 -- How many entries of tables are looked at, at most, over a chain of so many functions. The search for a handler asks for the

@@ -15,7 +15,7 @@ use Rattle.generated_chains.specs.Spelled.{half}
 use Rattle.generated_chains.specs.Code.{start_of}
 use Rattle.generated_chains.specs.Tables.{frames_place, languages_place, relative, plain_entry, language_entry, common_offset, language_place, program_of, offset_of, description_body, description_bytes}
 use Rattle.generated_chains.proofs.SpelledLemmas.{length-half}
-use Rattle.generated_chains.proofs.Readers.{input, read_half, read_small, read_relative, split_front, read_body}
+use Rattle.generated_chains.proofs.Readers.{input, read_u32, read_small, read_relative, split_front, read_body}
 
 -- ---- what the entries are
 
@@ -96,7 +96,7 @@ description_read : (bases : Bases) (kind : Kind) (handling : Handling) (q start 
     fde_body bases (cie_by handling) q (input frames_place ((q + 4) + 4) (after_distance kind handling q start)) ≡ Ok (fde_at kind handling q start)
 description_read bases kind PassesOn q start lq ls =
     let e1 = relative_at bases ((q + 4) + 4) (q + 8) start (half 64 ++ (4 ∷ (relative (frames_place + (q + 17)) (language_place PassesOn) ++ program_of kind))) (omega arith) (omega arith) ls in
-    let e2 = read_half frames_place (((q + 4) + 4) + 4) 64 (4 ∷ (relative (frames_place + (q + 17)) (language_place PassesOn) ++ program_of kind)) (lit< tt) in
+    let e2 = read_u32 frames_place (((q + 4) + 4) + 4) 64 (4 ∷ (relative (frames_place + (q + 17)) (language_place PassesOn) ++ program_of kind)) (lit< tt) in
     let e3 = read_small frames_place ((((q + 4) + 4) + 4) + 4) 4 (relative (frames_place + (q + 17)) (language_place PassesOn) ++ program_of kind) (lit< tt) in
     let e4 = split_front frames_place (((((q + 4) + 4) + 4) + 4) + 1) 4 (relative (frames_place + (q + 17)) (language_place PassesOn)) (program_of kind) (length-half _) in
     let fits : start + 64 ≤ 2 ^ 64 - 1 = omega arith in
@@ -104,7 +104,7 @@ description_read bases kind PassesOn q start lq ls =
     rw (e1, e2, le-leb (start + 64) (2 ^ 64 - 1) fits, e3, e4, end) refl
 description_read bases kind CleansUp q start lq ls =
     let e1 = relative_at bases ((q + 4) + 4) (q + 8) start (half 64 ++ (4 ∷ (relative (frames_place + (q + 17)) (language_place CleansUp) ++ program_of kind))) (omega arith) (omega arith) ls in
-    let e2 = read_half frames_place (((q + 4) + 4) + 4) 64 (4 ∷ (relative (frames_place + (q + 17)) (language_place CleansUp) ++ program_of kind)) (lit< tt) in
+    let e2 = read_u32 frames_place (((q + 4) + 4) + 4) 64 (4 ∷ (relative (frames_place + (q + 17)) (language_place CleansUp) ++ program_of kind)) (lit< tt) in
     let e3 = read_small frames_place ((((q + 4) + 4) + 4) + 4) 4 (relative (frames_place + (q + 17)) (language_place CleansUp) ++ program_of kind) (lit< tt) in
     let e4 = split_front frames_place (((((q + 4) + 4) + 4) + 4) + 1) 4 (relative (frames_place + (q + 17)) (language_place CleansUp)) (program_of kind) (length-half _) in
     let e5 = relative_alone (record bases { func = Some start }) (((((q + 4) + 4) + 4) + 4) + 1) (q + 17) languages_place (omega arith) (omega arith) (lit< tt) in
@@ -113,7 +113,7 @@ description_read bases kind CleansUp q start lq ls =
     rw (e1, e2, le-leb (start + 64) (2 ^ 64 - 1) fits, e3, e4, e5, end) refl
 description_read bases kind Catches q start lq ls =
     let e1 = relative_at bases ((q + 4) + 4) (q + 8) start (half 64 ++ (4 ∷ (relative (frames_place + (q + 17)) (language_place Catches) ++ program_of kind))) (omega arith) (omega arith) ls in
-    let e2 = read_half frames_place (((q + 4) + 4) + 4) 64 (4 ∷ (relative (frames_place + (q + 17)) (language_place Catches) ++ program_of kind)) (lit< tt) in
+    let e2 = read_u32 frames_place (((q + 4) + 4) + 4) 64 (4 ∷ (relative (frames_place + (q + 17)) (language_place Catches) ++ program_of kind)) (lit< tt) in
     let e3 = read_small frames_place ((((q + 4) + 4) + 4) + 4) 4 (relative (frames_place + (q + 17)) (language_place Catches) ++ program_of kind) (lit< tt) in
     let e4 = split_front frames_place (((((q + 4) + 4) + 4) + 4) + 1) 4 (relative (frames_place + (q + 17)) (language_place Catches)) (program_of kind) (length-half _) in
     let e5 = relative_alone (record bases { func = Some start }) (((((q + 4) + 4) + 4) + 4) + 1) (q + 17) (languages_place + 12) (omega arith) (omega arith) (lit< tt) in
@@ -150,7 +150,7 @@ module _ (bases : Bases) (more : List ℕ) where
       let q : ℕ = offset_of o.index in
       let back : ℕ = (q + 4) - common_offset o.handling in
       let few = small_common o.handling in
-      let e1 = read_half frames_place (q + 4) back (after_distance o.kind o.handling q (start_of o.index)) (omega arith) in
+      let e1 = read_u32 frames_place (q + 4) back (after_distance o.kind o.handling q (start_of o.index)) (omega arith) in
       let some : back ≢ 0 = λ e. absurd (omega arith) in
       let less : back ≤ q + 4 = omega arith in
       let place : (q + 4) - back ≡ common_offset o.handling = omega arith in

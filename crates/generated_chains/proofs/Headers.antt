@@ -14,7 +14,7 @@ use Rattle.generated_chains.specs.Spelled.{half}
 use Rattle.generated_chains.specs.Code.{start_of}
 use Rattle.generated_chains.specs.Tables.{header_place, frames_place, relative, offset_of, pair_bytes}
 use Rattle.generated_chains.specs.Memory.{HoldsTables}
-use Rattle.generated_chains.proofs.Readers.{input, read_half, read_relative, read_from_header}
+use Rattle.generated_chains.proofs.Readers.{input, read_u32, read_relative, read_from_header}
 use Rattle.generated_chains.proofs.Entries.{fde_by}
 
 abbrev places_of : List Outline → List (ℕ × ℕ)
@@ -54,7 +54,7 @@ module _ (image : List Span) (os : List Outline) (holds : HoldsTables image os) 
   leads = ap (λ (b : List ℕ). direct 0x1b no_bases (input header_place 4 (drop 4 b))) holds.header ∙ rw (read_relative no_bases header_place 4 frames_place (half (length os) ++ flat_map pair_bytes os) (lit< tt) (lit< tt)) refl
 
   counts : number w32 counted ≡ Ok (length (map fde_by os), listed)
-  counts = read_half header_place 8 (length os) (flat_map pair_bytes os) (omega arith) ∙ ap (λ (n : ℕ). Ok (n, listed)) (sym (length-map os fde_by))
+  counts = read_u32 header_place 8 (length os) (flat_map pair_bytes os) (omega arith) ∙ ap (λ (n : ℕ). Ok (n, listed)) (sym (length-map os fde_by))
 
   pub header_lists : IsHeaderTable image header_place frames_place (map fde_by os)
   header_lists = record {

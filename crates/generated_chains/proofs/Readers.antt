@@ -15,8 +15,8 @@ use Rattle.generated_chains.proofs.SpelledLemmas.{length-half, half-read}
 abbrev pub input : ℕ → ℕ → List ℕ → Input
 input base p bytes = record { base = base; offset = p; bytes = bytes }
 
-pub read_half : (base p v : ℕ) (rest : List ℕ) → v < 2 ^ 32 → number w32 (input base p (half v ++ rest)) ≡ Ok (v, input base (p + 4) rest)
-read_half base p v rest lt =
+pub read_u32 : (base p v : ℕ) (rest : List ℕ) → v < 2 ^ 32 → number w32 (input base p (half v ++ rest)) ≡ Ok (v, input base (p + 4) rest)
+read_u32 base p v rest lt =
     let long : 4 ≤ length (half v ++ rest) = rw (length-append, length-half) (omega arith) in
     rw (le-ltb (length (half v ++ rest)) 4 long, take_at (half v) rest 4 (length-half v), drop_at (half v) rest 4 (length-half v), half-read v lt) refl
 
@@ -59,12 +59,12 @@ distance_fits at to = omega arith
 pub read_relative : (bases : Bases) (base p to : ℕ) (rest : List ℕ) → base + p < 2 ^ 31 → to < 2 ^ 31 → pointer 0x1b bases (input base p (relative (base + p) to ++ rest)) ≡ Ok (Direct to, input base (p + 4) rest)
 read_relative bases base p to rest la lt =
     let place : (base + p) % 2 ^ 64 ≡ base + p = omega arith in
-    rw (read_half base p (distance_from (base + p) to) rest (distance_fits (base + p) to), place, distance_is (base + p) to la lt) refl
+    rw (read_u32 base p (distance_from (base + p) to) rest (distance_fits (base + p) to), place, distance_is (base + p) to la lt) refl
 
 -- a pointer relative to a header
 pub read_from_header : (bases : Bases) (h base p to : ℕ) (rest : List ℕ) → h < 2 ^ 31 → to < 2 ^ 31 → bases.data_base ≡ Some h → direct 0x3b bases (input base p (relative h to ++ rest)) ≡ Ok (to, input base (p + 4) rest)
 read_from_header bases h base p to rest la lt known =
-    rw (known, read_half base p (distance_from h to) rest (distance_fits h to), distance_is h to la lt) refl
+    rw (known, read_u32 base p (distance_from h to) rest (distance_fits h to), distance_is h to la lt) refl
 
 -- ---- the body of an entry
 

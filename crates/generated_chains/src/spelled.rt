@@ -7,7 +7,7 @@ use std::alloc::AllocError;
 
 /// Puts the four bytes of a number last, the lowest first.
 #[tactic(auto, unfolding(crate::specs::Spelled::half))]
-pub fn put_half(bytes: &mut Vec<u8>, n: u32) -> Result<(), AllocError>
+pub fn put_u32(bytes: &mut Vec<u8>, n: u32) -> Result<(), AllocError>
     ensures { OnOk result (bytes.new.items ≡ bytes.old.items ++ half n) }
 {
     bytes.extend_from_slice(&n.to_le_bytes())
@@ -17,7 +17,7 @@ pub fn put_half(bytes: &mut Vec<u8>, n: u32) -> Result<(), AllocError>
 pub fn put_relative(bytes: &mut Vec<u8>, at: u32, to: u32) -> Result<(), AllocError>
     ensures { OnOk result (bytes.new.items ≡ bytes.old.items ++ relative at to) }
 {
-    put_half(bytes, to.wrapping_sub(at))
+    put_u32(bytes, to.wrapping_sub(at))
 }
 
 /// Puts the eight bytes of a word last, the highest first.

@@ -9,7 +9,7 @@ ghost use Rattle.generated_chains.specs.Tables.{offset_of, description_bytes, fr
 ghost use Rattle.generated_chains.specs.Tables.{pair_bytes, header_table};
 
 use crate::outline::{Handling, Kind, Outline};
-use crate::spelled::{put_half, put_relative};
+use crate::spelled::{put_relative, put_u32};
 use std::alloc::{AllocError, Global};
 
 /// Where the first function starts.
@@ -98,9 +98,9 @@ fn put_description(bytes: &mut Vec<u8>, function: Outline) -> Result<(), AllocEr
 {
     let offset = offset_of(function.index);
     bytes.extend_from_slice(&[28, 0, 0, 0])?;
-    put_half(bytes, offset + 4 - common_offset(function.handling))?;
+    put_u32(bytes, offset + 4 - common_offset(function.handling))?;
     put_relative(bytes, FRAMES + (offset + 8), start_of(function.index))?;
-    put_half(bytes, 64)?;
+    put_u32(bytes, 64)?;
     bytes.push(4)?;
     put_relative(
         bytes,
@@ -161,7 +161,7 @@ pub fn header_table(alloc: Global, functions: &[Outline]) -> Result<Vec<u8>, All
     let mut bytes = Vec::with_capacity(alloc, 12 + 8 * functions.len())?;
     bytes.extend_from_slice(&[1, 0x1b, 3, 0x3b])?;
     put_relative(&mut bytes, HEADER + 4, FRAMES)?;
-    put_half(&mut bytes, functions.len() as u32)?;
+    put_u32(&mut bytes, functions.len() as u32)?;
     for function in functions {
         put_pair(&mut bytes, *function)?;
     }

@@ -2,8 +2,8 @@
 use Rattle.std.proofs.Common.{◌≡◌, [], Result, Ok, Err, refl}
 use Rattle.std.specs.Prelude.{IsOkAnd, OnErr}
 use Rattle.stack_walks.specs.Walking.{RoomValue}
-use Rattle.stack_steps.specs.declared.answers.DeliverError.{DeliverError}
-use Rattle.stack_deliver.specs.declared.answers.Ending.{Ending}
+use Rattle.stack_steps.specs.declared.error.DeliverError.{DeliverError}
+use Rattle.stack_deliver.specs.declared.outcome.Ending.{Ending}
 use Rattle.stack_deliver.specs.Delivering.{IsDelivered, delivery_in}
 use Rattle.stack_deliver.specs.StackDelivery.{DeliveryValue}
 use Rattle.kalzurenk_c.specs.Deliveries.{trail_due}

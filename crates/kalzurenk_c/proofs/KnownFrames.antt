@@ -5,7 +5,7 @@ use Rattle.unwind_definitions.specs.State.{State, Shows, RBX, RBP, R12, R13, R14
 use Rattle.format_frames.specs.declared.machine.Stepped.{Stepped}
 use Rattle.unwind_arch.specs.declared.x86_64.Context.{Context}
 use Rattle.unwind_arch.specs.ContextViews.{columns_of}
-use Rattle.stack_steps.specs.declared.answers.DeliverError.{DeliverError}
+use Rattle.stack_steps.specs.declared.error.DeliverError.{DeliverError}
 use Rattle.stack_steps.specs.Modules.{AreApart, SpaceValue}
 use Rattle.stack_steps.specs.Stepping.{step_of}
 use Rattle.stack_steps.specs.KnownStacks.{IsKnownStack, is_by_signal}

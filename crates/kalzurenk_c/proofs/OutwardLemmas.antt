@@ -4,14 +4,14 @@ use Rattle.std.proofs.lemmas.Grind.{take-set_at}
 use Rattle.std.proofs.lemmas.List.{drop-set-lt, drop-drop, map-append, take-append-drop, length-set}
 use Rattle.format_frames.specs.declared.machine.Stepped.{Stepped}
 use Rattle.unwind_arch.specs.declared.x86_64.Context.{Context}
-use Rattle.stack_steps.specs.declared.answers.DeliverError.{DeliverError}
+use Rattle.stack_steps.specs.declared.error.DeliverError.{DeliverError}
 use Rattle.memory_image.specs.Results.{result_map}
 use Rattle.stack_steps.specs.Growing.{advanced_to}
 use Rattle.stack_steps.specs.Modules.{SpaceValue}
 use Rattle.stack_steps.specs.Stepping.{step_of}
-use Rattle.stack_walks.specs.declared.front.Front.{Front}
-use Rattle.stack_walks.specs.declared.front.Front.TheVariants.{Outermost, NoModule, NoDescription, UnreadableTable, Refused, Limit}
-use Rattle.stack_walks.specs.Fronts.{ComesTo, EndsFor, Meets, caller_from}
+use Rattle.stack_walks.specs.declared.walk_end.EndReason.{EndReason}
+use Rattle.stack_walks.specs.declared.walk_end.EndReason.TheVariants.{Outermost, NoModule, NoDescription, UnreadableTable, Refused, Limit}
+use Rattle.stack_walks.specs.WalkEnds.{ComesTo, EndsFor, Meets, caller_from}
 use Rattle.stack_walks.specs.Lines.{NeedsMore}
 use Rattle.kalzurenk_c.specs.declared.told.StackFrame.{StackFrame}
 use Rattle.kalzurenk_c.specs.Outward.{ComesAt, IsAt, StopsFor, states_from}
@@ -164,7 +164,7 @@ meets_as space t P is zero c interrupted met = met
 meets_as space t P is (suc room) c interrupted (inl at) = inl (rw (at.0, at.1) is)
 meets_as space t P is (suc room) c interrupted (inr met) = inr (met.0, met.1, meets_as space t P is room met.0.context met.0.signal met.2)
 
-pub comes_for : (space : SpaceValue) (t : Stepped) (limit : ℕ) (s : Stepped) (why : Front) → EndsFor why space t.context t.signal → Meets space (IsAt t) limit s.context s.signal → ComesTo why space limit s.context s.signal
+pub comes_for : (space : SpaceValue) (t : Stepped) (limit : ℕ) (s : Stepped) (why : EndReason) → EndsFor why space t.context t.signal → Meets space (IsAt t) limit s.context s.signal → ComesTo why space limit s.context s.signal
 comes_for space t limit s Outermost ends met = meets_as space t (EndsFor Outermost space) ends limit s.context s.signal met
 comes_for space t limit s (NoModule a) ends met = meets_as space t (EndsFor (NoModule a) space) ends limit s.context s.signal met
 comes_for space t limit s (NoDescription a) ends met = meets_as space t (EndsFor (NoDescription a) space) ends limit s.context s.signal met
@@ -172,7 +172,7 @@ comes_for space t limit s (UnreadableTable a offset e) ends met = meets_as space
 comes_for space t limit s (Refused a e) ends met = meets_as space t (EndsFor (Refused a e) space) ends limit s.context s.signal met
 comes_for space t limit s Limit ends met = absurd ends
 
-pub stop_comes : (space : SpaceValue) (limit : ℕ) (s t : Stepped) (last : Result Bool DeliverError) (why : Front) → ComesAt last space limit s t → StopsFor last why space t → ComesTo why space limit s.context s.signal
+pub stop_comes : (space : SpaceValue) (limit : ℕ) (s t : Stepped) (last : Result Bool DeliverError) (why : EndReason) → ComesAt last space limit s t → StopsFor last why space t → ComesTo why space limit s.context s.signal
 stop_comes space limit s t (Ok true) why more is = rw is more
 stop_comes space limit s t (Ok false) why met is = comes_for space t limit s why is met
 stop_comes space limit s t (Err e) why met is = comes_for space t limit s why is met

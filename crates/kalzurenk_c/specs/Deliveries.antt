@@ -4,11 +4,11 @@ use Rattle.memory_image.specs.Results.{◌>>=◌, result_map}
 use Rattle.unwind_definitions.specs.State.{State}
 use Rattle.frame_facts.specs.FactDeliveries.{AskedFrame}
 use Rattle.unwind_arch.specs.declared.x86_64.Context.{Context}
-use Rattle.stack_steps.specs.declared.answers.DeliverError.{DeliverError}
+use Rattle.stack_steps.specs.declared.error.DeliverError.{DeliverError}
 use Rattle.stack_steps.specs.Modules.{SpaceValue}
 use Rattle.stack_walks.specs.declared.room.Trail.{Trail}
-use Rattle.stack_deliver.specs.declared.answers.Outcome.{Outcome}
-use Rattle.stack_deliver.specs.declared.answers.Outcome.TheVariants.{Installed, EndOfStack, FatalPhase1, FatalPhase2}
+use Rattle.stack_deliver.specs.declared.outcome.Outcome.{Outcome}
+use Rattle.stack_deliver.specs.declared.outcome.Outcome.TheVariants.{Installed, EndOfStack, FatalPhase1, FatalPhase2}
 use Rattle.stack_deliver.specs.KnownDeliveries.{ShowsKnownDelivery, StartsKnownDelivery}
 use Rattle.stack_deliver.specs.Resumes.{with_resume}
 use Rattle.stack_deliver.specs.StackDelivery.{DeliveryValue, stack_delivery}

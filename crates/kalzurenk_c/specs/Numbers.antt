@@ -6,8 +6,8 @@ use Rattle.macho_unwind_info.specs.declared.error.Error as macho-error
 use Rattle.macho_unwind_info.specs.declared.error.Error.TheVariants as macho
 use Rattle.macho_unwind_info.specs.declared.error.ReadError as read-error
 use Rattle.macho_unwind_info.specs.declared.error.ReadError.TheVariants as read
-use Rattle.stack_steps.specs.declared.answers.DeliverError.{DeliverError}
-use Rattle.stack_steps.specs.declared.answers.DeliverError.TheVariants as step
+use Rattle.stack_steps.specs.declared.error.DeliverError.{DeliverError}
+use Rattle.stack_steps.specs.declared.error.DeliverError.TheVariants as step
 
 abbrev pub table_number : Error → ℕ
 table_number table.UnexpectedEof = 1

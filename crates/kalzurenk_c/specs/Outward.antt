@@ -2,12 +2,12 @@
 use Rattle.std.specs.Prelude.{◌≡◌, ℕ, zero, suc, Bool, true, false, List, [], ◌∷◌, length, Option, Some, None, Result, Ok, Err}
 use Rattle.unwind_arch.specs.declared.x86_64.Context.{Context}
 use Rattle.format_frames.specs.declared.machine.Stepped.{Stepped}
-use Rattle.stack_steps.specs.declared.answers.DeliverError.{DeliverError}
+use Rattle.stack_steps.specs.declared.error.DeliverError.{DeliverError}
 use Rattle.stack_steps.specs.Modules.{SpaceValue}
 use Rattle.stack_steps.specs.Stepping.{step_of}
-use Rattle.stack_walks.specs.declared.front.Front.{Front}
-use Rattle.stack_walks.specs.declared.front.Front.TheVariants.{Limit}
-use Rattle.stack_walks.specs.Fronts.{EndsFor, Meets, caller_from}
+use Rattle.stack_walks.specs.declared.walk_end.EndReason.{EndReason}
+use Rattle.stack_walks.specs.declared.walk_end.EndReason.TheVariants.{Limit}
+use Rattle.stack_walks.specs.WalkEnds.{EndsFor, Meets, caller_from}
 use Rattle.stack_walks.specs.Lines.{NeedsMore}
 use Rattle.kalzurenk_c.specs.declared.outward.WalkStop.{WalkStop}
 
@@ -45,7 +45,7 @@ IsStop stop space limit s t =
     (stop.count ≡ length (states_from space limit s)) × ComesAt stop.last space limit s t × HasNoNext stop.last space t
 
 -- why it goes no further
-abbrev pub StopsFor : Result Bool DeliverError → Front → SpaceValue → Stepped → Type 0
+abbrev pub StopsFor : Result Bool DeliverError → EndReason → SpaceValue → Stepped → Type 0
 StopsFor (Ok true) why space t = why ≡ Limit
 StopsFor (Ok false) why space t = EndsFor why space t.context t.signal
 StopsFor (Err e) why space t = EndsFor why space t.context t.signal

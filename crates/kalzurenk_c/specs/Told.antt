@@ -2,10 +2,10 @@
 use Rattle.std.specs.Prelude.{◌≡◌, ◌⊎◌, ℕ, suc, Bool, true, false, List, [], ◌++◌, ◌∷◌, length, map, drop, get_or, min, ◌-◌, ◌^◌, Result, Ok, Err}
 use Rattle.unwind_definitions.specs.State.{State}
 use Rattle.format_frames.specs.declared.machine.Stepped.{Stepped}
-use Rattle.stack_walks.specs.declared.front.Front.{Front}
-use Rattle.stack_walks.specs.declared.front.Front.TheVariants as front
-use Rattle.stack_walks.specs.Fronts.{ComesTo}
-use Rattle.stack_walks.specs.KnownWalks.{StartsKnownStack, front_of_stack}
+use Rattle.stack_walks.specs.declared.walk_end.EndReason.{EndReason}
+use Rattle.stack_walks.specs.declared.walk_end.EndReason.TheVariants as reason
+use Rattle.stack_walks.specs.WalkEnds.{ComesTo}
+use Rattle.stack_walks.specs.KnownWalks.{StartsKnownStack, end_reason_of_stack}
 use Rattle.stack_steps.specs.KnownStacks.{IsKnownStack, is_by_signal}
 use Rattle.stack_steps.specs.Modules.{SpaceValue}
 use Rattle.kalzurenk_c.specs.declared.refusal.Place.{Place}
@@ -47,13 +47,13 @@ end_with count reason error address detail =
     record { size = end_size; frame_size = frame_size; count = count; address = address; detail = detail; reason = reason; error = error }
 
 -- so many frames, and why there are no more
-abbrev pub end_told : ℕ → Front → WalkEnd
-end_told count front.Outermost = end_with count 0 0 0 0
-end_told count (front.NoModule a) = end_with count 1 0 a 0
-end_told count (front.NoDescription a) = end_with count 2 0 a 0
-end_told count (front.UnreadableTable a offset e) = end_with count 3 (table_number e) a offset
-end_told count (front.Refused a e) = end_with count 4 (refused_number e) a (refused_detail e)
-end_told count front.Limit = end_with count 5 0 0 0
+abbrev pub end_told : ℕ → EndReason → WalkEnd
+end_told count reason.Outermost = end_with count 0 0 0 0
+end_told count (reason.NoModule a) = end_with count 1 0 a 0
+end_told count (reason.NoDescription a) = end_with count 2 0 a 0
+end_told count (reason.UnreadableTable a offset e) = end_with count 3 (table_number e) a offset
+end_told count (reason.Refused a e) = end_with count 4 (refused_number e) a (refused_detail e)
+end_told count reason.Limit = end_with count 5 0 0 0
 
 -- the most frames that so many places have room for
 abbrev pub frame_limit : ℕ → ℕ
@@ -83,7 +83,7 @@ frames_known space interrupted s (t ∷ callers) stack = frame_known interrupted
 abbrev pub TellsStack : (space : SpaceValue) (interrupted : Bool) (s : State) (callers : List State) → IsKnownStack space interrupted s callers → List StackFrame → List StackFrame → WalkEnd → Type 0
 TellsStack space interrupted s callers stack before frames end =
     (frames ≡ frames_known space interrupted s callers stack ++ drop (suc (length callers)) before)
-    × (end ≡ end_told (suc (length callers)) (front_of_stack space interrupted s callers stack))
+    × (end ≡ end_told (suc (length callers)) (end_reason_of_stack space interrupted s callers stack))
 
 -- wherever the start begins such a stack, which the limit has room for, it is told so
 unfoldable pub TellsKnown : SpaceValue → ℕ → Stepped → List StackFrame → List StackFrame → WalkEnd → Type 0
@@ -96,7 +96,7 @@ TellsKnown space limit start before frames end = (s : State) (callers : List Sta
 abbrev pub TellsFront : SpaceValue → ℕ → Stepped → List StackFrame → List StackFrame → WalkEnd → Type 0
 TellsFront space limit start before frames end =
     (frames ≡ over (states_from space limit start) before)
-    × ((why : Front) → ComesTo why space limit start.context start.signal → end ≡ end_told (length (states_from space limit start)) why)
+    × ((why : EndReason) → ComesTo why space limit start.context start.signal → end ≡ end_told (length (states_from space limit start)) why)
     × TellsKnown space limit start before frames end
 
 -- the status that a call answers, and what stands in its caller's places after it

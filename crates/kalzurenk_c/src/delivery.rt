@@ -9,7 +9,7 @@ ghost use Rattle.kalzurenk_c.specs.Deliveries.{registers_told};
 ghost use Rattle.kalzurenk_c.specs.Deliveries.{IsPending, TellsDelivery, with_space};
 ghost use Rattle.stack_deliver.specs.Delivering.{IsDelivered, delivery_in};
 ghost use Rattle.stack_deliver.specs.StackDelivery.{DeliveryValue};
-ghost use Rattle.stack_steps.specs.declared.answers.DeliverError.{DeliverError};
+ghost use Rattle.stack_steps.specs.declared.error.DeliverError.{DeliverError};
 
 use crate::given::{GivenModule, Region, Registers, context_of, space_of};
 use crate::numbers::refused_end;
@@ -258,7 +258,7 @@ fn told_of(room: &Room, delivered: Result<Ending, DeliverError>) -> DeliveryTold
 }
 
 /// Delivers over a space, and tells the cleanups and the ending.
-fn tell_delivery<'t, 'a>(
+fn write_delivery<'t, 'a>(
     space: &GrownSpace<'_, 't, 'a>,
     resumes: &Resumes,
     raised: &Raised,
@@ -324,7 +324,7 @@ impl Unwinding for PendingDelivery {
         cleanups: &mut [Cleanup],
         delivery: &mut DeliveryTold,
     ) {
-        tell_delivery(
+        write_delivery(
             space,
             &self.resumes,
             &self.raised,
@@ -353,7 +353,7 @@ fn deliver_given(
     let space = space_of(alloc, regions, modules)?;
     let mut pending = PendingDelivery::new(alloc, start, thrown, pairs)?;
     let own = space.over_own_image();
-    tell_delivery(
+    write_delivery(
         &own,
         &pending.resumes,
         &pending.raised,

@@ -13,7 +13,7 @@ use crate::told::{StackFrame, WalkEnd, end_told, frame_of};
 use fde_finders::FDESearchResult;
 use memory_image::{Ledger, NoLedger, Steps};
 use stack_steps::{DeliverError, GrownSpace, Stepped, Stepper};
-use stack_walks::{Front, RowRoom, unframed_front};
+use stack_walks::{EndReason, RowRoom, unframed_end};
 use unwind_arch::x86_64::RSP;
 
 /// Where a walk starts, and how many frames it may have.
@@ -112,7 +112,7 @@ where
     let found = stepper.frame_at(state, place, rows, steps);
     match &found {
         Ok(None) => Ok(false),
-        Ok(Some(frame)) => match stepper.leave(state, frame) {
+        Ok(Some(frame)) => match stepper.step_to_caller(state, frame) {
             Ok(()) => Ok(true),
             Err(error) => Err(error),
         },
@@ -223,14 +223,14 @@ fn front_at(
     space: &GrownSpace<'_, '_, '_>,
     state: &Stepped,
     last: Result<bool, DeliverError>,
-) -> Front
+) -> EndReason
     requires { HasNoNext last space.now state.now }
     ensures { StopsFor last result space.now state.now }
 {
     match last {
-        Ok(true) => Front::Limit,
-        Ok(false) => unframed_front(space, state),
-        Err(error) => Front::Refused {
+        Ok(true) => EndReason::Limit,
+        Ok(false) => unframed_end(space, state),
+        Err(error) => EndReason::Refused {
             address: state.address(),
             error,
         },
@@ -238,7 +238,7 @@ fn front_at(
 }
 
 /// Walks a stack: puts its frames into places, and tells how many they are and why there are no more.
-pub(crate) fn tell_walk<'t, 'a>(
+pub(crate) fn write_walk<'t, 'a>(
     space: &GrownSpace<'_, 't, 'a>,
     start: &WalkStart,
     frames: &mut [StackFrame],
@@ -273,6 +273,6 @@ impl Unwinding for WalkStart {
         frames: &mut [StackFrame],
         end: &mut WalkEnd,
     ) {
-        tell_walk(space, &*self, frames, end);
+        write_walk(space, &*self, frames, end);
     }
 }

@@ -5,7 +5,7 @@ ghost use Rattle.kalzurenk_c.specs.Told.{end_told, frame_limit, frame_of};
 use crate::numbers::{refused_end, table_number};
 use crate::sizes::{END_SIZE, FRAME_SIZE};
 use stack_steps::Stepped;
-use stack_walks::Front;
+use stack_walks::EndReason;
 use unwind_arch::x86_64::{R12, R13, R14, R15, RBP, RBX, RSP};
 
 /// A frame: its return address, its stack pointer, the registers that calls keep, and its mark.
@@ -75,23 +75,23 @@ pub(crate) fn frame_of(state: &Stepped) -> StackFrame
 }
 
 /// What is told of a walk's end.
-pub(crate) fn end_told(count: u64, why: Front) -> WalkEnd
+pub(crate) fn end_told(count: u64, why: EndReason) -> WalkEnd
     ensures { result ≡ end_told count why }
 {
     let (reason, error, address, detail) = match why {
-        Front::Outermost => (0, 0, 0, 0),
-        Front::NoModule(address) => (1, 0, address, 0),
-        Front::NoDescription(address) => (2, 0, address, 0),
-        Front::UnreadableTable {
+        EndReason::Outermost => (0, 0, 0, 0),
+        EndReason::NoModule(address) => (1, 0, address, 0),
+        EndReason::NoDescription(address) => (2, 0, address, 0),
+        EndReason::UnreadableTable {
             address,
             offset,
             error,
         } => (3, table_number(error), address, offset),
-        Front::Refused { address, error } => {
+        EndReason::Refused { address, error } => {
             let (number, detail) = refused_end(error);
             (4, number, address, detail)
         }
-        Front::Limit => (5, 0, 0, 0),
+        EndReason::Limit => (5, 0, 0, 0),
     };
     WalkEnd {
         size: END_SIZE,
@@ -117,5 +117,5 @@ pub(crate) fn frame_limit(frames: &[StackFrame]) -> u32
 /// A caller can tell ends apart: no two counts, and no two reasons with their addresses and errors, are
 /// told alike. The function does nothing.
 pub fn ends_are_told_apart()
-    ensures apart { (m n : ℕ) (a b : Front) → end_told m a ≡ end_told n b → (m ≡ n) × (a ≡ b) }
+    ensures apart { (m n : ℕ) (a b : EndReason) → end_told m a ≡ end_told n b → (m ≡ n) × (a ≡ b) }
 {}

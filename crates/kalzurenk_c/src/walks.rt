@@ -5,7 +5,7 @@ ghost use Rattle.kalzurenk_c.specs.Sizes.{walk_sized};
 ghost use Rattle.kalzurenk_c.specs.Told.{TellsUnlessNoMemory, WalksOver, frame_limit};
 
 use crate::given::{GivenModule, Region, Registers, space_of, start_of};
-use crate::outward::{WalkStart, tell_walk};
+use crate::outward::{WalkStart, write_walk};
 use crate::refusal::{Place, Refusal, answered};
 use crate::sizes::walk_sized;
 use crate::told::{StackFrame, WalkEnd, frame_limit};
@@ -30,7 +30,7 @@ fn walk_given(
         state: start_of(start, interrupted),
         limit: frame_limit(frames),
     };
-    tell_walk(&space.over_own_image(), &start, frames, end);
+    write_walk(&space.over_own_image(), &start, frames, end);
     Ok(())
 }
 

@@ -3,7 +3,7 @@ use crate::call_frames::TABLE;
 use crate::walks::STACK;
 use anyhow::Result;
 use memory_image::{MemoryImage, NoLedger, Steps};
-use stack_deliver::{Context, FrameInfo, FrameInfoKind, Room, Space, walk_front_into};
+use stack_deliver::{Context, FrameInfo, FrameInfoKind, Room, Space, walk_to_end_into};
 use unwind_arch::x86_64::RSP;
 
 /// The frames of two samples: of one whose stack is there, and of one whose stack pointer lies in no region.
@@ -37,13 +37,13 @@ pub(crate) fn print_samples(rt: &HostRuntime) -> Result<()> {
     let mut room = Room::new(rt.alloc(), 128)?;
     let mut steps = Steps::new(NoLedger);
     for start in &samples {
-        let front = walk_front_into(&space, start, true, 128, &mut room, &mut steps);
+        let reason = walk_to_end_into(&space, start, true, 128, &mut room, &mut steps);
         for i in 0..room.visited_len() {
             if let Some(context) = room.visited(i) {
                 println!(rt; "{:#x}", context.ra)?;
             }
         }
-        println!(rt; "{front:?}")?;
+        println!(rt; "{reason:?}")?;
     }
     // end
     Ok(())

@@ -13,7 +13,11 @@ head_put room new bytes end count inside few written =
     rw (written, append_assoc (take end room) bytes tail)
     (ap (λ n. take (n + count) (take end room ++ (bytes ++ tail))) (sym size) ∙ start ∙ ap (λ head. take end room ++ head) (take-append-le count bytes tail few))
 
--- a label, a mark and digits that were put one after the other
-pub field_put : (text one two three label mark head whole : List ℕ) → one ≡ text ++ label → two ≡ one ++ mark → three ≡ two ++ head → head ≡ whole →
-    three ≡ text ++ label ++ (mark ++ whole)
-field_put text one two three label mark head whole first second third same = rw (third, second, first, same) (simp append_assoc)
+-- a mark and digits that were put one after the other
+pub number_put : (text one two mark head whole : List ℕ) → one ≡ text ++ mark → two ≡ one ++ head → head ≡ whole →
+    two ≡ text ++ (mark ++ whole)
+number_put text one two mark head whole first second same = rw (second, first, same) (append_assoc text mark whole)
+
+-- a label and a number that were put one after the other
+pub field_put : (text one two label number : List ℕ) → one ≡ text ++ label → two ≡ one ++ number → two ≡ text ++ label ++ number
+field_put text one two label number first second = second ∙ ap (λ t. t ++ number) first

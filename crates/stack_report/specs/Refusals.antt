@@ -6,8 +6,8 @@ use Rattle.macho_unwind_info.specs.declared.error.Error.{Error as MachoError}
 use Rattle.macho_unwind_info.specs.declared.error.Error.TheVariants as sections
 use Rattle.macho_unwind_info.specs.declared.error.ReadError.{ReadError}
 use Rattle.macho_unwind_info.specs.declared.error.ReadError.TheVariants as parts
-use Rattle.stack_steps.specs.declared.answers.DeliverError.{DeliverError}
-use Rattle.stack_steps.specs.declared.answers.DeliverError.TheVariants as refusals
+use Rattle.stack_steps.specs.declared.error.DeliverError.{DeliverError}
+use Rattle.stack_steps.specs.declared.error.DeliverError.TheVariants as refusals
 use Rattle.stack_report.specs.Digits.{hexadecimal}
 use Rattle.stack_report.specs.Report.{line}
 

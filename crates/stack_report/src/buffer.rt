@@ -2,14 +2,10 @@
 ghost use Rattle.std.specs.Prelude.{◌≡◌, ◌++◌, ◌∷◌, [], IfOk, OnOk};
 ghost use Rattle.std.specs.Fmt.{decimal};
 ghost use Rattle.stack_report.specs.Digits.{hexadecimal, word};
-ghost use Rattle.stack_report.specs.Refusals.{refusal_text};
-ghost use Rattle.stack_report.specs.Report.{line, walk_report_of};
+ghost use Rattle.stack_report.specs.Report.{line};
 
 use crate::digits::{put_decimal, put_hexadecimal, put_word};
 use crate::line::Line;
-use crate::refusal::put_refusal;
-use crate::walk::put_walk;
-use stack_deliver::{DeliverError, Room};
 use std::alloc::{AllocError, Global};
 use std::marker::Model;
 
@@ -93,21 +89,6 @@ impl Report {
         ensures { OnOk result (self.new ≡ self.old ++ word number) }
     {
         put_word(&mut self.bytes, number)
-    }
-
-    /// Puts why a step, a walk or a delivery was refused last.
-    pub fn put_refusal(&mut self, error: DeliverError) -> Result<(), AllocError>
-        ensures { OnOk result (self.new ≡ self.old ++ refusal_text error) }
-    {
-        put_refusal(self, error)
-    }
-
-    /// Puts the report of the walk whose states stand in a room last: a line for each state, and that
-    /// there are no more.
-    pub fn put_walk(&mut self, room: &Room) -> Result<(), AllocError>
-        ensures { OnOk result (self.new ≡ self.old ++ walk_report_of room.now.visited) }
-    {
-        put_walk(self, room)
     }
 
     /// Ends the line.

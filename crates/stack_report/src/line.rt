@@ -43,6 +43,7 @@ impl Line {
     }
 
     /// Puts the head of some bytes last. There is room for all of them.
+    #[inline(always)]
     fn put_head(&mut self, bytes: &[u8], count: usize)
         requires room { length self.old + length bytes.now ≤ 256 }
         requires head { count ≤ length bytes.now }
@@ -52,7 +53,9 @@ impl Line {
         self.end += count;
     }
 
-    /// Puts a text last.
+    /// Puts a text last. Where it is a word of the report, its length is known, and its bytes are written
+    /// without a call.
+    #[inline(always)]
     pub(crate) fn put(&mut self, text: &str)
         requires { length self.old + length text.now ≤ 256 }
         ensures text { self.new ≡ self.old ++ text.now }
@@ -61,16 +64,27 @@ impl Line {
         self.put_head(text.as_bytes(), text.len());
     }
 
+    /// Puts a hexadecimal number last.
+    #[inline(never)]
+    fn put_number(&mut self, number: u64)
+        requires { length self.old + 18 ≤ 256 }
+        ensures text { self.new ≡ self.old ++ hexadecimal number }
+        ensures most { length self.new ≤ length self.old + 18 }
+    {
+        self.put("0x");
+        let (digits, count) = head_digits(number);
+        self.put_head(&digits, count);
+    }
+
     /// Puts a label and a hexadecimal number last.
+    #[inline(always)]
     pub(crate) fn put_field(&mut self, label: &str, number: u64)
         requires { length self.old + length label.now + 18 ≤ 256 }
         ensures text { self.new ≡ self.old ++ label.now ++ hexadecimal number }
         ensures most { length self.new ≤ length self.old + length label.now + 18 }
     {
         self.put(label);
-        self.put("0x");
-        let (digits, count) = head_digits(number);
-        self.put_head(&digits, count);
+        self.put_number(number);
     }
 
     /// Puts a label and a decimal number last.
@@ -86,6 +100,7 @@ impl Line {
 }
 
 /// Writes bytes into a room from a place on.
+#[inline(always)]
 fn write_at(room: &mut [u8], place: usize, bytes: &[u8])
     requires { place + length bytes.now ≤ length room.old }
     ensures { room.new

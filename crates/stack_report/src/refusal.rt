@@ -81,20 +81,23 @@ fn put_section(report: &mut Report, error: MachoError) -> Result<(), AllocError>
     }
 }
 
-pub(crate) fn put_refusal(report: &mut Report, error: DeliverError) -> Result<(), AllocError>
-    ensures { OnOk result (report.new ≡ report.old ++ refusal_text error) }
-{
-    match error {
-        DeliverError::NoMemory => report.put("no memory"),
-        DeliverError::Unmapped(address) => report.put_field("unmapped ", address),
-        DeliverError::FrameLimit => report.put("frame limit"),
-        DeliverError::PassLimit => report.put("pass limit"),
-        DeliverError::NoResume(pad) => report.put_field("no resume ", pad),
-        DeliverError::Table(error) => put_named(report, "table ", error_name(error)),
-        DeliverError::MachO(error) => put_section(report, error),
-        DeliverError::CompactForm => report.put("compact form"),
-        DeliverError::PeInfo => report.put("pe info"),
-        DeliverError::ChainLimit => report.put("chain limit"),
+impl Report {
+    /// Puts why a step, a walk or a delivery was refused last.
+    pub fn put_refusal(&mut self, error: DeliverError) -> Result<(), AllocError>
+        ensures { OnOk result (self.new ≡ self.old ++ refusal_text error) }
+    {
+        match error {
+            DeliverError::NoMemory => self.put("no memory"),
+            DeliverError::Unmapped(address) => self.put_field("unmapped ", address),
+            DeliverError::FrameLimit => self.put("frame limit"),
+            DeliverError::PassLimit => self.put("pass limit"),
+            DeliverError::NoResume(pad) => self.put_field("no resume ", pad),
+            DeliverError::Table(error) => put_named(self, "table ", error_name(error)),
+            DeliverError::MachO(error) => put_section(self, error),
+            DeliverError::CompactForm => self.put("compact form"),
+            DeliverError::PeInfo => self.put("pe info"),
+            DeliverError::ChainLimit => self.put("chain limit"),
+        }
     }
 }
 
@@ -108,7 +111,7 @@ pub fn refused_line(alloc: Global, error: DeliverError) -> Result<Report, AllocE
 {
     let mut report = Report::new(alloc);
     report.put("refused: ")?;
-    put_refusal(&mut report, error)?;
+    report.put_refusal(error)?;
     report.end_line()?;
     Ok(report)
 }

@@ -7,13 +7,16 @@ use crate::states::put_frames;
 use stack_deliver::{Room, Visited};
 use std::alloc::{AllocError, Global};
 
-/// Puts a line for each state in a room, and that there are no more.
-pub(crate) fn put_walk(report: &mut Report, room: &Room) -> Result<(), AllocError>
-    ensures { OnOk result (report.new ≡ report.old ++ walk_report_of room.now.visited) }
-{
-    put_frames(report, room)?;
-    report.put("end")?;
-    report.end_line()
+impl Report {
+    /// Puts the report of the walk whose states stand in a room last: a line for each state, and that
+    /// there are no more.
+    pub fn put_walk(&mut self, room: &Room) -> Result<(), AllocError>
+        ensures { OnOk result (self.new ≡ self.old ++ walk_report_of room.now.visited) }
+    {
+        put_frames(self, room)?;
+        self.put("end")?;
+        self.end_line()
+    }
 }
 
 /// The report of a walk: a line for each state, and that there are no more.
@@ -25,6 +28,6 @@ pub fn walk_report_of(alloc: Global, visited: &Visited) -> Result<Report, AllocE
     ensures { IfOk result (λ report. report ≡ walk_report_of visited.now) }
 {
     let mut report = Report::new(alloc);
-    put_walk(&mut report, visited.room())?;
+    report.put_walk(visited.room())?;
     Ok(report)
 }

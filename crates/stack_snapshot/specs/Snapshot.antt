@@ -88,18 +88,18 @@ abbrev pub elf_of : Data → Option Module
 elf_of d = option_and_then (λ start. option_and_then (λ end. option_map (elf_with start end) (frame_info_of d)) (word_at (codes "end") d)) (word_at (codes "start") d)
 
 -- a word below 2 ^ 32
-abbrev pub if_half : ℕ → Option ℕ
-if_half n = if nat_lt n (2 ^ 32) then Some n else None
+abbrev pub if_u32 : ℕ → Option ℕ
+if_u32 n = if nat_lt n (2 ^ 32) then Some n else None
 
-abbrev pub half_at : List ℕ → Data → Option ℕ
-half_at key d = option_and_then if_half (word_at key d)
+abbrev pub u32_at : List ℕ → Data → Option ℕ
+u32_at key d = option_and_then if_u32 (word_at key d)
 
 -- the address after the last of a module that is given by its base and its size
 abbrev pub if_word : ℕ → Option ℕ
 if_word n = if nat_lt n (2 ^ 64) then Some n else None
 
 abbrev pub end_from : ℕ → Data → Option ℕ
-end_from base d = option_and_then (λ size. if_word (base + size)) (half_at (codes "size") d)
+end_from base d = option_and_then (λ size. if_word (base + size)) (u32_at (codes "size") d)
 
 -- the section of compact unwinding, and the frame data where it is given
 abbrev pub macho_tables_of : Data → Option ModuleTables
@@ -107,7 +107,7 @@ macho_tables_of d = option_and_then (λ unwind_info. option_map (λ frames. Mach
 
 -- the function table
 abbrev pub pe_tables_of : Data → Option ModuleTables
-pe_tables_of d = option_and_then (λ rva. option_map (λ size. Pe (record { table_rva = rva; table_size = size })) (half_at (codes "pdata_size") d)) (half_at (codes "pdata_rva") d)
+pe_tables_of d = option_and_then (λ rva. option_map (λ size. Pe (record { table_rva = rva; table_size = size })) (u32_at (codes "pdata_size") d)) (u32_at (codes "pdata_rva") d)
 
 abbrev pub module_with : ℕ → ℕ → ModuleTables → Module
 module_with start end tables = record { start = start; end = end; tables = tables }

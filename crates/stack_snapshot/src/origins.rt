@@ -33,7 +33,7 @@ impl Origin {
     pub fn name(&self) -> &[u8]
         ensures { result.now ≡ file_name self.now.path }
     {
-        after_slash(self.path.as_bytes())
+        file_name(self.path.as_bytes())
     }
 
     /// The path of the file.
@@ -58,8 +58,8 @@ impl Origin {
     }
 }
 
-/// What is after the last slash.
-fn after_slash(path: &[u8]) -> &[u8]
+/// The name of the file at a path: what is after the last slash.
+pub fn file_name(path: &[u8]) -> &[u8]
     ensures { result.now ≡ file_name path.now }
 {
     let mut start = 0;

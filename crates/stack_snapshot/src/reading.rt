@@ -8,8 +8,8 @@ ghost use Rattle.stack_snapshot.specs.Snapshot.{frame_kind_of, frame_info_of, el
 ghost use Rattle.stack_snapshot.specs.Snapshot.{module_list, registers_in};
 ghost use Rattle.stack_snapshot.specs.Snapshot.{register_names, start_of, resume_in, resume_of};
 ghost use Rattle.stack_snapshot.specs.Snapshot.{resume_list, resumes_of, limit_of, interrupted_of};
-ghost use Rattle.stack_snapshot.specs.Snapshot.{whole_numbers, snapshot_of, word_if_given, if_half};
-ghost use Rattle.stack_snapshot.specs.Snapshot.{half_at, end_from, macho_tables_of, pe_tables_of};
+ghost use Rattle.stack_snapshot.specs.Snapshot.{whole_numbers, snapshot_of, word_if_given, if_u32};
+ghost use Rattle.stack_snapshot.specs.Snapshot.{u32_at, end_from, macho_tables_of, pe_tables_of};
 ghost use Rattle.stack_snapshot.specs.Snapshot.{module_with_size};
 ghost use Rattle.stack_deliver.specs.Resumes.{resume_table};
 ghost use Rattle.stack_snapshot.specs.Fields.{bytes_at};
@@ -129,8 +129,8 @@ fn elf_of(value: &Value) -> Option<Module>
 }
 
 /// The word, where it is below 2^32.
-fn if_half(word: u64) -> Option<u32>
-    ensures { result ≡ if_half word }
+fn if_u32(word: u64) -> Option<u32>
+    ensures { result ≡ if_u32 word }
 {
     if word < 0x1_0000_0000 {
         Some(word as u32)
@@ -140,17 +140,17 @@ fn if_half(word: u64) -> Option<u32>
 }
 
 /// The word below 2^32 at a key.
-fn half_at(value: &Value, key: &str) -> Option<u32>
-    ensures { result ≡ half_at key.now (view value.now) }
+fn u32_at(value: &Value, key: &str) -> Option<u32>
+    ensures { result ≡ u32_at key.now (view value.now) }
 {
-    if_half(word_at(value, key)?)
+    if_u32(word_at(value, key)?)
 }
 
 /// The address after the last of a module that begins at `base`.
 fn end_from(base: u64, value: &Value) -> Option<u64>
     ensures { result ≡ end_from base (view value.now) }
 {
-    base.checked_add(u64::from(half_at(value, "size")?))
+    base.checked_add(u64::from(u32_at(value, "size")?))
 }
 
 /// Where the tables of a Mach-O module lie.
@@ -169,8 +169,8 @@ fn macho_tables_of(value: &Value) -> Option<ModuleTables>
 fn pe_tables_of(value: &Value) -> Option<ModuleTables>
     ensures { result ≡ pe_tables_of (view value.now) }
 {
-    let table_rva = half_at(value, "pdata_rva")?;
-    let table_size = half_at(value, "pdata_size")?;
+    let table_rva = u32_at(value, "pdata_rva")?;
+    let table_size = u32_at(value, "pdata_size")?;
     Some(ModuleTables::Pe(PeTables {
         table_rva,
         table_size,

@@ -1,15 +1,13 @@
 // Samples of stacks over one memory.
 ghost use Rattle.std.specs.Prelude.{◌≡◌, ◌⊎◌, ◌≤◌, IfOk, IfSome, Err, option_and_then};
 ghost use Rattle.serde_json.specs.View.{view, items_view};
-ghost use Rattle.stack_snapshot.specs.Answers.{Gives, value_of};
-ghost use Rattle.stack_snapshot.specs.Origins.{origins_by, snapshot_in};
+ghost use Rattle.stack_snapshot.specs.Answers.{Gives};
 ghost use Rattle.stack_snapshot.specs.Sampled.{depth_of, if_few, sample_list, sample_of, sampled_in};
 ghost use Rattle.stack_snapshot.specs.Sampled.{sampled_of, sampled_space, samples_of};
 ghost use Rattle.stack_snapshot.specs.Snapshot.{needs};
 
 use crate::errors::{Field, SnapshotError};
 use crate::fields::number_at;
-use crate::origins::{Origins, origins_of};
 use crate::reading::{
     interrupted_of, is_whole, listed_modules, listed_regions, lists_of, start_of, value_in,
 };
@@ -166,23 +164,4 @@ pub fn read_sampled_snapshot(alloc: Global, bytes: &[u8]) -> Result<SampledSnaps
 {
     let value = value_in(alloc, bytes)?;
     sampled_of(alloc, value)
-}
-
-/// Reads samples of stacks over one memory, and from which files their modules come.
-///
-/// # Errors
-///
-/// As [`read_sampled_snapshot`].
-pub fn read_named_samples(
-    alloc: Global,
-    bytes: &[u8],
-) -> Result<(SampledSnapshot, Origins), SnapshotError>
-    ensures reads { (result ≡ Err SnapshotError.NoMemory) ⊎
-        (snapshot_in result ≡ sampled_in bytes.now) }
-    ensures origins { IfOk result (λ both. both.1 ≡ origins_by (value_of bytes.now)) }
-{
-    let value = value_in(alloc, bytes)?;
-    let origins = origins_of(alloc, &value);
-    let samples = sampled_of(alloc, value)?;
-    Ok((samples, origins?))
 }

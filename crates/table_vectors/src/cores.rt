@@ -1,7 +1,7 @@
 //! Core files: a worked one, byte by byte, what isn't one, and notes as programs write them.
 
 use crate::asserting::expect_equal;
-use core_file::{AddError, CoreError, CoreFile};
+use core_file::{AddError, CoreError, CoreFile, mapped_parts};
 use memory_image::MemoryImage;
 use std::alloc::{AllocError, Global};
 use std::test::Fail;
@@ -138,5 +138,79 @@ fn notes_of_threads_are_known(rt: HostRuntime) -> Result<(), Fail> {
     }
     // The name without its zero byte, and four bytes more for the description.
     expect_equal(&rt, has_thread_with(alloc, &[(176, 4), (180, 0x54)])?, true);
+    Ok(())
+}
+
+// A program header from byte 64 on: notes from byte 120 on.
+const HEADERS_OF_NOTES: &[u8] = b"\
+    \x7fELF\x02\x01\x01\0\0\0\0\0\0\0\0\0\x04\0\x3e\0\x01\0\0\0\
+    \0\0\0\0\0\0\0\0\x40\0\0\0\0\0\0\0\0\0\0\0\0\0\0\0\
+    \0\0\0\0\x40\0\x38\0\x01\0\0\0\0\0\0\0\
+    \x04\0\0\0\x04\0\0\0\x78\0\0\0\0\0\0\0\0\0\0\0\0\0\0\0\0\0\0\0\0\0\0\0\
+    \xd0\0\0\0\0\0\0\0\0\0\0\0\0\0\0\0\x04\0\0\0\0\0\0\0";
+
+// The note NT_FILE of the core that Linux wrote of a static program, with another path of as many bytes.
+const FILES: &[u8] = b"\
+    \x05\0\0\0\xba\0\0\0ELIFCORE\0\0\0\0\x05\0\0\0\
+    \0\0\0\0\0\x10\0\0\0\0\0\0\0\0@\0\0\0\0\0\0\x10@\0\
+    \0\0\0\0\0\0\0\0\0\0\0\0\0\x10@\0\0\0\0\0\0\xb0H\0\
+    \0\0\0\0\x01\0\0\0\0\0\0\0\0\xb0H\0\0\0\0\0\0PK\0\
+    \0\0\0\0\x8b\0\0\0\0\0\0\0\0PK\0\0\0\0\0\0\x90K\0\
+    \0\0\0\0\xb5\0\0\0\0\0\0\0\0\x90K\0\0\0\0\0\0\xc0K\0\
+    \0\0\0\0\xb9\0\0\0\0\0\0\0/bin/true\0\
+    /bin/true\0/bin/true\0\
+    /bin/true\0/bin/true\0\0\0";
+
+// What eu-readelf says of the parts: their addresses, and where they begin in the file.
+const PARTS: [(u64, u64, u64); 5] = [
+    (0x40_0000, 0x40_1000, 0),
+    (0x40_1000, 0x48_b000, 0x1000),
+    (0x48_b000, 0x4b_5000, 0x8_b000),
+    (0x4b_5000, 0x4b_9000, 0xb_5000),
+    (0x4b_9000, 0x4b_c000, 0xb_9000),
+];
+
+// How many parts of files a core has, with another byte at an index of its note. None where there is no note on them.
+fn part_count_with(alloc: Global, index: usize, byte: u8) -> Result<Option<usize>, AllocError> {
+    let mut file = Vec::from_slice(alloc, HEADERS_OF_NOTES)?;
+    file.extend_from_slice(FILES)?;
+    if let Some(place) = file.get_mut(120 + index) {
+        *place = byte;
+    }
+    let Some(parts) = mapped_parts(&file) else {
+        return Ok(None);
+    };
+    let mut parts = parts;
+    let mut count = 0usize;
+    while parts.next().is_some() {
+        count = count.saturating_add(1);
+    }
+    Ok(Some(count))
+}
+
+#[test]
+fn the_parts_of_mapped_files_are_read(rt: HostRuntime) -> Result<(), Fail> {
+    let alloc = rt.alloc();
+    let mut file = Vec::from_slice(alloc, HEADERS_OF_NOTES)?;
+    file.extend_from_slice(FILES)?;
+    let mut parts = mapped_parts(&file).ok_or("no parts")?;
+    for (start, end, offset) in PARTS {
+        let part = parts.next().ok_or("too few parts")?;
+        expect_equal(&rt, part.start, start);
+        expect_equal(&rt, part.end, end);
+        expect_equal(&rt, part.offset, offset);
+        expect_equal(&rt, part.path, b"/bin/true".as_slice());
+    }
+    expect_equal(&rt, parts.next().is_none(), true);
+    // Fewer parts, more than the note has, another type of note, another name, and no zero byte after the last path.
+    for (index, byte, count) in [
+        (20, 4, Some(4)),
+        (20, 9, None),
+        (8, 0x44, None),
+        (12, b'K', None),
+        (205, b'/', Some(4)),
+    ] {
+        expect_equal(&rt, part_count_with(alloc, index, byte)?, count);
+    }
     Ok(())
 }

@@ -15,8 +15,8 @@ use Rattle.command_ends.specs.declared.status.Status.{Status}
 use Rattle.command_ends.specs.declared.status.Status.TheVariants.{Done, Memory}
 use Rattle.command_ends.specs.Answers.{AnswersBytes, fault_due}
 use Rattle.command_ends.specs.Verdicts.{Verdict, verdict}
-use Rattle.unwind_cli.specs.declared.words.Task.{Task}
-use Rattle.unwind_cli.specs.declared.words.Task.TheVariants.{Audit, Check}
+use Rattle.unwind_cli.specs.declared.command.Task.{Task}
+use Rattle.unwind_cli.specs.declared.command.Task.TheVariants.{Audit, Check}
 use Rattle.unwind_cli.specs.Due.{AreFoundFor, Findings, IfRead, audited_due, checked_due, claims_fault_due, code_due, read_due, task_due}
 use Rattle.unwind_cli.proofs.Checks.{none_found}
 

@@ -13,9 +13,9 @@ use Rattle.stack_snapshot.specs.declared.errors.SnapshotError.{SnapshotError}
 use Rattle.command_ends.specs.declared.status.Status.{Status}
 use Rattle.command_ends.specs.declared.status.Status.TheVariants.{Done, ReadFault, Memory}
 use Rattle.command_ends.specs.Verdicts.{IsReadyOrFailed, Tells, Verdict}
-use Rattle.unwind_cli.specs.declared.words.Task.{Task}
-use Rattle.unwind_cli.specs.declared.words.Task.TheVariants.{Audit, Check}
-use Rattle.unwind_cli.specs.declared.words.Command.TheVariants.{OnSnapshot}
+use Rattle.unwind_cli.specs.declared.command.Task.{Task}
+use Rattle.unwind_cli.specs.declared.command.Task.TheVariants.{Audit, Check}
+use Rattle.unwind_cli.specs.declared.command.Command.TheVariants.{OnSnapshot}
 use Rattle.unwind_cli.specs.Commands.{command_of, task_of}
 use Rattle.unwind_cli.specs.Due.{AreFoundOf, Findings, IfRead, TellsDifferences, TellsRight, TellsVerdict, checked_due, differences_due}
 

@@ -8,8 +8,8 @@ use Rattle.command_ends.specs.declared.status.Status.TheVariants.{Done, ReadFaul
 use Rattle.command_ends.specs.Answers.{IsUnread}
 use Rattle.command_ends.specs.Verdicts.{IsReady, IsReadyOrFailed, verdict}
 use Rattle.command_ends.proofs.VerdictLemmas.{if_some_weaker}
-use Rattle.unwind_cli.specs.declared.words.Task.{Task}
-use Rattle.unwind_cli.specs.declared.words.Command.TheVariants.{Generate}
+use Rattle.unwind_cli.specs.declared.command.Task.{Task}
+use Rattle.unwind_cli.specs.declared.command.Command.TheVariants.{Generate}
 use Rattle.unwind_cli.specs.Commands.{command_of, task_of}
 use Rattle.unwind_cli.specs.Lines.{usage_line}
 use Rattle.unwind_cli.specs.Due.{AreFoundFor, AreFoundOf, Findings, bytes_due, case_due, due_of}

@@ -6,17 +6,17 @@ use Rattle.std.proofs.lemmas.Bool.{le-ltb, lt-ltb}
 use Rattle.std.proofs.lemmas.Bool.Decides.{nat_tests}
 use Rattle.unwind_arch.specs.declared.x86_64.Context.{Context}
 use Rattle.stack_deliver.specs.StackDelivery.{DeliveryValue}
-use Rattle.stack_steps.specs.declared.answers.DeliverError.{DeliverError}
-use Rattle.stack_steps.specs.declared.answers.DeliverError.TheVariants.{NoMemory}
+use Rattle.stack_steps.specs.declared.error.DeliverError.{DeliverError}
+use Rattle.stack_steps.specs.declared.error.DeliverError.TheVariants.{NoMemory}
 use Rattle.stack_snapshot.specs.declared.errors.Field.{Field}
 use Rattle.stack_snapshot.specs.declared.errors.SnapshotError.{SnapshotError}
 use Rattle.stack_snapshot.specs.declared.errors.SnapshotError.TheVariants as faults
 use Rattle.command_ends.specs.declared.status.Status.{Status}
 use Rattle.command_ends.specs.declared.status.Status.TheVariants.{Done, ReadFault, WriteFault, TooLong, NotJson, BadSnapshot, Refused, Memory}
-use Rattle.unwind_cli.specs.declared.words.Task.{Task}
-use Rattle.unwind_cli.specs.declared.words.Task.TheVariants.{Deliver, Throw, Walk, Fold, Core, Check, Audit}
-use Rattle.unwind_cli.specs.declared.words.Command.{Command}
-use Rattle.unwind_cli.specs.declared.words.Command.TheVariants.{OnSnapshot, Generate}
+use Rattle.unwind_cli.specs.declared.command.Task.{Task}
+use Rattle.unwind_cli.specs.declared.command.Task.TheVariants.{Deliver, Throw, Walk, Fold, Core, Check, Audit}
+use Rattle.unwind_cli.specs.declared.command.Command.{Command}
+use Rattle.unwind_cli.specs.declared.command.Command.TheVariants.{OnSnapshot, Generate}
 use Rattle.unwind_cli.specs.Commands.{task_in}
 use Rattle.stack_snapshot.specs.Answers.{content_of}
 use Rattle.stack_snapshot.specs.Content.{Content}

@@ -8,8 +8,8 @@ ghost use Rattle.fact_claims.specs.Code.{AreDifferencesIn};
 ghost use Rattle.unwind_cli.specs.Due.{AreFoundFor, Findings, audited_due, checked_due};
 ghost use Rattle.unwind_cli.specs.Due.{claims_fault_due, task_due, unaudited_due};
 
+use crate::command::Task;
 use crate::lines::{claim_line, claims_line};
-use crate::words::Task;
 use claim_checks::{ClaimedModule, read_claims, verdict_line};
 use command_ends::{Answer, Status, fault_answer, silent_answer, text_answer};
 use fact_checks::{AuditError, ClaimedFacts};

@@ -13,7 +13,7 @@ ghost use Rattle.unwind_arch.specs.ContextViews.{columns_of};
 ghost use Rattle.format_definitions.specs.Calls.{IsDescribedCall};
 ghost use Rattle.stack_steps.specs.SpaceViews.{formats_of};
 ghost use Rattle.stack_snapshot.specs.Content.{space_of};
-ghost use Rattle.unwind_cli.specs.declared.words.Task.TheVariants as task;
+ghost use Rattle.unwind_cli.specs.declared.command.Task.TheVariants as task;
 ghost use Rattle.unwind_cli.specs.Due.{Asks};
 ghost use Rattle.stack_snapshot.specs.Described.{DescribesChain, DescribesStop, DescribesWalk};
 ghost use Rattle.stack_report.specs.Report.{delivery_text, walk_text};

@@ -61,24 +61,24 @@ abbrev pub Asking : Type 0 → Type 0 → Type 0 → Type 0 → Type 0
 Asking C F E S = S → F → Marked C → S × Result (UnwindReasonCode × C) E
 
 -- what is met at a context: an end, or the caller
-pub data Turn (C E S : Type 0) : Type 0 where
-  Ends : S → LineEnd C E → Turn C E S
-  Goes : S → Marked C → Turn C E S
+pub data FrameVisit (C E S : Type 0) : Type 0 where
+  Ends : S → LineEnd C E → FrameVisit C E S
+  Goes : S → Marked C → FrameVisit C E S
 
-abbrev pub goes : {C E S : Type 0} → S → Result (Marked C) E → Turn C E S
+abbrev pub goes : {C E S : Type 0} → S → Result (Marked C) E → FrameVisit C E S
 goes s (Ok next) = Goes s next
 goes s (Err e) = Ends s (Fails e)
 
 -- a frame was asked, and its caller is made only where the answer is to go on
-abbrev pub turn_asked : {C F E S : Type 0} → Undoing C F E → F → Marked C → S × Result (UnwindReasonCode × C) E → Turn C E S
-turn_asked undoing f x (s, Ok (code, left)) = if is_code code CONTINUE_UNWIND then goes s (undoing.caller f left) else Ends s (Decides x code left (undoing.past_arguments f left))
-turn_asked undoing f x (s, Err e) = Ends s (Fails e)
+abbrev pub visit_asked : {C F E S : Type 0} → Undoing C F E → F → Marked C → S × Result (UnwindReasonCode × C) E → FrameVisit C E S
+visit_asked undoing f x (s, Ok (code, left)) = if is_code code CONTINUE_UNWIND then goes s (undoing.caller f left) else Ends s (Decides x code left (undoing.past_arguments f left))
+visit_asked undoing f x (s, Err e) = Ends s (Fails e)
 
 -- the row is read first
-abbrev pub turn_seen : {C F E S : Type 0} → Undoing C F E → Asking C F E S → S → Marked C → Result (Option F) E → Turn C E S
-turn_seen undoing asks s x (Ok None) = Ends s (RanOut x)
-turn_seen undoing asks s x (Ok (Some f)) = turn_asked undoing f x (asks s f x)
-turn_seen undoing asks s x (Err e) = Ends s (Fails e)
+abbrev pub visit_seen : {C F E S : Type 0} → Undoing C F E → Asking C F E S → S → Marked C → Result (Option F) E → FrameVisit C E S
+visit_seen undoing asks s x (Ok None) = Ends s (RanOut x)
+visit_seen undoing asks s x (Ok (Some f)) = visit_asked undoing f x (asks s f x)
+visit_seen undoing asks s x (Err e) = Ends s (Fails e)
 
 -- the contexts of a line, how it ends, and the state then
 pub record Line (C E S : Type 0) : Type 0 where
@@ -86,7 +86,7 @@ pub record Line (C E S : Type 0) : Type 0 where
   pub end : LineEnd C E
   pub state : S
 
-abbrev pub IsAfter : {C E S : Type 0} → (S → Marked C → Line C E S → Type 0) → Marked C → Turn C E S → Line C E S → Type 0
+abbrev pub IsAfter : {C E S : Type 0} → (S → Marked C → Line C E S → Type 0) → Marked C → FrameVisit C E S → Line C E S → Type 0
 IsAfter outer x (Ends s end) line = line ≡ record { contexts = x ∷ []; end = end; state = s }
 IsAfter {C} {E} {S} outer x (Goes s next) line = (rest : Line C E S) × outer s next rest × (line ≡ record rest { contexts = x ∷ rest.contexts })
 
@@ -94,7 +94,7 @@ IsAfter {C} {E} {S} outer x (Goes s next) line = (rest : Line C E S) × outer s 
 abbrev pub IsLine : {C F E S : Type 0} → Stepping C F E → Asking C F E S → ℕ → S → Marked C → Line C E S → Type 0
 IsLine step asks zero s x line = line ≡ record { contexts = []; end = Crowded; state = s }
 IsLine {C} {F} {E} {S} step asks (suc room) s x line =
-    (seen : Result (Option F) E) × step.Sees x seen × IsAfter (IsLine step asks room) x (turn_seen step.undoing asks s x seen) line
+    (seen : Result (Option F) E) × step.Sees x seen × IsAfter (IsLine step asks room) x (visit_seen step.undoing asks s x seen) line
 
 -- ---- what frames are asked
 

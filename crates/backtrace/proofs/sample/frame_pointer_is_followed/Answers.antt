@@ -13,11 +13,11 @@ use Rattle.unwind_arch.specs.declared.x86_64.Context.{Context}
 use Rattle.stack_steps.specs.Modules.{AreApart}
 use Rattle.stack_steps.specs.Stepping.{step_of, frame_of}
 use Rattle.stack_steps.proofs.StepAnswers.{ends_step}
-use Rattle.stack_walks.specs.declared.front.Front.TheVariants.{Outermost}
-use Rattle.stack_walks.specs.Fronts.{ComesTo, front_of, start_state}
-use Rattle.stack_walks.proofs.ChainFronts.{chain_comes}
+use Rattle.stack_walks.specs.declared.walk_end.EndReason.TheVariants.{Outermost}
+use Rattle.stack_walks.specs.WalkEnds.{ComesTo, contexts_to_end, start_state}
+use Rattle.stack_walks.proofs.ChainEnds.{chain_comes}
 use Rattle.stack_walks.proofs.ChainWalked.{chain_walked}
-use Rattle.stack_walks.proofs.FrontAnswers.{line_whole}
+use Rattle.stack_walks.proofs.EndAnswers.{line_whole}
 use Rattle.stack_deliver.specs.StateViews.{state_of}
 use Rattle.stack_deliver.proofs.Chains.{shown_states}
 use Rattle.stack_snapshot.specs.Answers.{content_of, value_of}

@@ -13,7 +13,7 @@ use Rattle.stack_report.specs.Digits.{hexadecimal, word}
 use Rattle.backtrace.specs.Lines.{form_with, states_text, frame_line, place_text, rest_text}
 use Rattle.frame_facts_laws.specs.SignalProgram as signals
 use Rattle.stack_snapshot.specs.Content.{space_of}
-use Rattle.stack_walks.specs.declared.front.Front.TheVariants.{Outermost}
+use Rattle.stack_walks.specs.declared.walk_end.EndReason.TheVariants.{Outermost}
 use Rattle.backtrace.specs.SignalSample.{json, places, snapshot, text}
 use Rattle.backtrace.proofs.KnownTraces.{ends_outermost}
 use Rattle.backtrace.proofs.sample.stop_in_a_signal_handler_is_known.Goals as goal

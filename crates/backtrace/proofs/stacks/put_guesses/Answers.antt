@@ -1,7 +1,7 @@
 use Rattle.std.proofs.Common.{◌≡◌, ℕ, ◌+◌, ◌-◌, ◌≤◌, ◌<◌, ◌++◌, [], length, List, Option, Some, None, refl, sym, ap, subst, ◌∙◌, arith}
 use Rattle.std.proofs.lemmas.Result.{on_ok_weaker}
 use Rattle.unwind_arch.specs.declared.x86_64.Context.{Context}
-use Rattle.stack_walks.specs.declared.front.Front.{Front}
+use Rattle.stack_walks.specs.declared.walk_end.EndReason.{EndReason}
 use Rattle.backtrace.specs.Code.{CodeValue, PlacesValue}
 use Rattle.backtrace.specs.FramePointers.{guess_after, IsWalkFrom}
 use Rattle.backtrace.specs.Lines.{FormValue, contexts_of, end_line, frame_lines, pointed_form, shown_states}
@@ -74,5 +74,5 @@ returns c =
     let none : guess_after o space code t ≡ None = subst (λ (k : List CodeValue). guess_after o space k t ≡ None) named (sym c.in_default.ensures) in
     let all = c.walks.invariant.leads [] none in
     let shown : c.args.shared.now.places.now ≡ c.args.form.now.places = sym c.requires.shown in
-    let ended : end_line c.args.shared.now.places.now c.why.result ≡ end_line c.args.form.now.places t.why = ap (λ (p : PlacesValue). end_line p c.why.result) shown ∙ ap (λ (w : Front). end_line c.args.form.now.places w) c.why.ensures in
+    let ended : end_line c.args.shared.now.places.now c.why.result ≡ end_line c.args.form.now.places t.why = ap (λ (p : PlacesValue). end_line p c.why.result) shown ∙ ap (λ (w : EndReason). end_line c.args.form.now.places w) c.why.ensures in
     on_ok_weaker c.put_end.result (λ e. (all.0, all.1, e ∙ (ap (λ (m : List ℕ). c.walks.report ++ m) ended ∙ all.2))) c.put_end.ensures

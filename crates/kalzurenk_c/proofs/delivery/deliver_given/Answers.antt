@@ -7,4 +7,4 @@ returns c =
     let space = c.in_ok-space.ensures in
     let pending = c.in_ok-pending.ensures in
     let given : delivery_given c.args.regions.now c.args.modules.now c.args.pairs.now ≡ Ok (with_space c.in_ok-space.space c.in_ok-pending.pending.resumes) = rw (space, pending.0) refl in
-    (with_space c.in_ok-space.space c.in_ok-pending.pending.resumes, given, rw (pending.1, c.over_own_image-own.ensures) at c.tell_delivery.ensures)
+    (with_space c.in_ok-space.space c.in_ok-pending.pending.resumes, given, rw (pending.1, c.over_own_image-own.ensures) at c.write_delivery.ensures)

@@ -1,7 +1,7 @@
 use Rattle.std.proofs.Common.{rules, ◌≡◌, Some, None}
 use Rattle.command_ends.specs.declared.status.Status.TheVariants.{Usage}
 use Rattle.command_ends.specs.Verdicts.{IsReady, verdict}
-use Rattle.unwind_cli.specs.declared.words.Command.TheVariants.{Generate}
+use Rattle.unwind_cli.specs.declared.command.Command.TheVariants.{Generate}
 use Rattle.unwind_cli.specs.Commands.{command_of}
 use Rattle.unwind_cli.specs.Lines.{usage_line}
 use Rattle.unwind_cli.proofs.Reading.{generated_answers, usage_answers}

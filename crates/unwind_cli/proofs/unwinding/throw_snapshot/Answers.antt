@@ -1,5 +1,5 @@
 use Rattle.std.proofs.Common.{◌≡◌, Result, ◌∙◌, refl, subst}
-use Rattle.stack_steps.specs.declared.answers.DeliverError.{DeliverError}
+use Rattle.stack_steps.specs.declared.error.DeliverError.{DeliverError}
 use Rattle.stack_steps.specs.Languages.{languages_of}
 use Rattle.stack_walks.specs.Lines.{GivesUnlessNoMemory}
 use Rattle.stack_deliver.specs.StackDelivery.{DeliveryValue, delivery_through}

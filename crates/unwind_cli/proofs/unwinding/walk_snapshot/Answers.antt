@@ -1,6 +1,6 @@
 use Rattle.std.proofs.Common.{◌≡◌, List, Result, ◌∙◌, refl, subst}
 use Rattle.unwind_arch.specs.declared.x86_64.Context.{Context}
-use Rattle.stack_steps.specs.declared.answers.DeliverError.{DeliverError}
+use Rattle.stack_steps.specs.declared.error.DeliverError.{DeliverError}
 use Rattle.stack_walks.specs.Lines.{GivesUnlessNoMemory, line_of}
 use Rattle.stack_snapshot.specs.Content.{space_of}
 use Rattle.unwind_cli.specs.Due.{walk_from}

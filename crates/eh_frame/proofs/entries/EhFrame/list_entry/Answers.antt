@@ -38,7 +38,7 @@ returns-in-Some c =
     let b = at c.args.body in
     let rest = at c.read_u32.new.self in
     let old = c.args.list.now in
-    let middle = c.list_named.new.list in
+    let middle = c.collect_by_cie.new.list in
     let new = c.push_fde.new.self in
     let lists = rw c.in-Some.is at c.in_ok-cie.ensures.cie in
     if_ok (λ r. AddsFde (fde_body bases (cie_in middle.cies.items c.in-Some.cie) c.args.offset rest) middle.cies.items middle.fdes.items r new.fdes.items) (λ r. ListsEntry bases table c.args.offset b old r new) c.push_fde.result c.push_fde.ensures.adds

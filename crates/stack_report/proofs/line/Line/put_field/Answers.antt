@@ -1,13 +1,8 @@
-use Rattle.std.proofs.Common.{take, false}
-use Rattle.std.specs.Prelude.{codes}
-use Rattle.std.specs.Fmt.{digits}
 use Rattle.stack_report.specs.Digits.{hexadecimal}
 use Rattle.stack_report.proofs.Lines.{field_put}
 use Rattle.stack_report.proofs.line.Line.put_field.Goals as goal
 
 pub returns-clause-text : goal.returns-clause-text
-unfolding hexadecimal
 returns-clause-text c =
-    field_put c.args.self.now c.put.new.self c.put-2.new.self c.put_head.new.self c.args.label.now (codes "0x")
-    (take c.head_digits-count.result.1 c.head_digits-count.result.0) (digits 16 false c.args.number)
-    c.put.ensures.text c.put-2.ensures.text c.put_head.ensures c.head_digits-count.ensures.digits
+    field_put c.args.self.now c.put.new.self c.put_number.new.self c.args.label.now (hexadecimal c.args.number)
+    c.put.ensures.text c.put_number.ensures.text
