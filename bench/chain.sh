@@ -50,8 +50,8 @@ measure() {
     header=$2
     # whichever of these the compiler keeps as a function
     case $word in
-        walk) alone=(walking::walk_into walking::walked outward::outwards) ;;
-        deliver) alone=(delivery::deliver_into delivery::fresh_throw delivery::delivery_in_room passes::passes outward::outwards) ;;
+        walk) alone=(walking::walk_into walking::walk_with_rows unwind::unwind_frames) ;;
+        deliver) alone=(delivery::deliver_into delivery::fresh_throw delivery::delivery_in_room passes::passes unwind::unwind_frames) ;;
     esac
     printf '%s, by the %s\n' "$word" "$([ -n "$header" ] && echo 'header table' || echo 'frame table')"
     printf '%8s %14s %8s %7s %8s %14s %8s %8s %9s %9s %12s %12s %12s\n' frames proved a-frame alone growth \

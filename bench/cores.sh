@@ -1,13 +1,13 @@
 #!/usr/bin/env bash
 # Prints how long the backtraces of all threads of a core or a process take, by backtrace.sh, gdb and
-# eu-stack, and whether their frames are the same.
+# eu-stack, and whether their frames are the same; and of a core how long core_stacks takes.
 #
 #   cores.sh PROGRAM CORE
 #   cores.sh PID                   a process whose threads wait, or that is stopped (kill -STOP)
 #
 # Seconds are those of the clock and, after the comma, of the processor. Each runs once before, so that
 # files are in memory. SECONDS_MOST (120) is how long each may take. Wants gdb, eu-stack (Debian: elfutils) and
-# the built programs (UNWIND_CLI, crates/unwind_cli/out/unwind_cli; for processes BACKTRACE too).
+# the built programs (UNWIND_CLI, crates/unwind_cli/out/unwind_cli; for processes BACKTRACE too; CORE_STACKS).
 set -uo pipefail
 case $# in
     1) of_gdb=(-p "$1") of_eu=(-p "$1") ;;
@@ -17,6 +17,7 @@ esac
 here=$(cd "$(dirname "$0")" && pwd)
 tools=$here/../tools
 most=${SECONDS_MOST:-120}
+core_stacks=${CORE_STACKS:-$here/../crates/core_stacks/out/core_stacks}
 scratch=$(mktemp -d)
 trap 'rm -rf "$scratch"' EXIT
 TIMEFORMAT='%R %U %S'
@@ -31,7 +32,7 @@ timed() {
 
 # A line of the table: a name, its seconds, and what is said of its frames.
 line() {
-    awk -v name="$1" -v said="$2" '{ printf "%-9s %7.2f s, %7.2f s  %s\n", name, $1, $2 + $3, said }' "$scratch/$1.time"
+    awk -v name="$1" -v said="$2" '{ printf "%-11s %7.3f s, %7.3f s  %s\n", name, $1, $2 + $3, said }' "$scratch/$1.time"
 }
 
 past=(-ex 'set backtrace past-main on' -ex 'set backtrace past-entry on')
@@ -43,5 +44,9 @@ timeout "$most" gdb -nx -batch -x "$tools/frames.py" -ex 'thread apply all frame
 line ours "$(grep -c '^Thread ' "$scratch/ours") threads, $(grep -c '^#' "$scratch/ours") lines"
 line gdb "$(python3 "$here/core_frames.py" "$scratch/ours" "$scratch/frames")"
 gdb_status=$?
+if [ $# -eq 2 ] && [ -x "$core_stacks" ]; then
+    timed core_stacks "$core_stacks" "$2"
+    line core_stacks "$(grep -c '^thread ' "$scratch/core_stacks") threads, $(grep -c '^frame ' "$scratch/core_stacks") states, without names"
+fi
 line eu-stack "$(python3 "$here/core_frames.py" "$scratch/ours" "$scratch/eu-stack")"
 [ $gdb_status -eq 0 ] && python3 "$here/core_frames.py" "$scratch/ours" "$scratch/eu-stack" > /dev/null

@@ -32,9 +32,9 @@ expect() {
     fi
 }
 
-# How often a pass met a frame in the last run.
+# How often a frame was asked what its language table says in the last run.
 steps() {
-    python3 "$here/calls.py" count "$work/callgrind" stack_walks::outward::meet | sed 's/^/         calls: /'
+    python3 "$here/calls.py" count "$work/callgrind" stack_steps::elf::prepared_asks | sed 's/^/         asked: /'
 }
 
 # NAME WORDS: the costs by length.

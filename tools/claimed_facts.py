@@ -15,7 +15,7 @@ from __future__ import annotations
 
 import json
 import sys
-from typing import Any, Iterator, NamedTuple
+from typing import Any, Callable, Iterator, NamedTuple
 
 from code_file import CodeFile
 from code_flow import CodeFlow
@@ -147,15 +147,15 @@ def claims_of(path: str) -> Object:
     return tables_of(file) | {"claims": [claim_object(claimed) for claimed in claimed_in(CodeFlow(file))]}
 
 
-def main() -> None:
-    """Reads the word of the command line."""
+def write_claims(name: str, object_of: Callable[[str], Object]) -> None:
+    """Writes the object of the file that the word of the command line names, for a script of this name."""
     if len(sys.argv) != 2:
-        sys.exit("usage: claimed_facts.py FILE")
+        sys.exit(f"usage: {name} FILE")
     try:
-        json.dump(claims_of(sys.argv[1]), sys.stdout, separators=(",", ":"))
+        json.dump(object_of(sys.argv[1]), sys.stdout, separators=(",", ":"))
     except (Refused, OSError) as fault:
         sys.exit(f"{sys.argv[1]}: {fault}")
 
 
 if __name__ == "__main__":
-    main()
+    write_claims("claimed_facts.py", claims_of)

@@ -17,14 +17,12 @@ It wants `readelf` and `objdump` (Debian: binutils).
 """
 from __future__ import annotations
 
-import json
-import sys
 from typing import Iterator, NamedTuple
 
-from claimed_facts import tables_of
+from claimed_facts import tables_of, write_claims
 from code_file import CodeFile, Description
 from code_flow import CodeFlow
-from elf_image import Range, Refused
+from elf_image import Range
 from known_frame import CALLEE_SAVED, Frame
 from language_sites import Site
 from machine_code import Instruction, Way
@@ -248,15 +246,5 @@ def claims_of(path: str) -> Object:
     return found | {"functions": [function_object(function) for function in functions_in(flow)]}
 
 
-def main() -> None:
-    """Reads the word of the command line."""
-    if len(sys.argv) != 2:
-        sys.exit("usage: claimed_functions.py FILE")
-    try:
-        json.dump(claims_of(sys.argv[1]), sys.stdout, separators=(",", ":"))
-    except (Refused, OSError) as fault:
-        sys.exit(f"{sys.argv[1]}: {fault}")
-
-
 if __name__ == "__main__":
-    main()
+    write_claims("claimed_functions.py", claims_of)

@@ -1,6 +1,6 @@
 /* Each status but that of memory, and each reason why a walk ends, by kz_walk and by a session, and deliveries that no
  * frame takes or that are refused, by kz_deliver and by a session. The tables are those of the worked examples
- * in crates/stack_walks/specs/FrontSample.antt, and what is due of them is what crates/stack_walks proves of these. */
+ * in crates/stack_walks/specs/WalkEndSample.antt, and what is due of them is what crates/stack_walks proves of these. */
 #include <inttypes.h>
 #include <kalzurenk.h>
 #include <stdio.h>
