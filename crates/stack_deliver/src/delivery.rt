@@ -64,7 +64,7 @@ where
         phase: Phase::Search,
         languages: *languages,
     });
-    let searched = unwind_frames_over(
+    let Some(stop) = unwind_frames_over(
         pass,
         &mut stepper,
         &mut state,
@@ -73,8 +73,8 @@ where
         &mut place,
         &mut rows,
         steps,
-    )?;
-    let Some(stop) = searched else {
+    )?
+    else {
         return Ok(without_landing(Outcome::EndOfStack));
     };
     if !stop.action().is_taken() {

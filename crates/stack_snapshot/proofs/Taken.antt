@@ -1,19 +1,17 @@
 -- What holds of each snapshot: its memory is laid out, its modules are apart, and its start has sixteen registers.
-use Rattle.std.proofs.Common.{◌≡◌, ℕ, suc, ◌+◌, ◌-◌, ◌^◌, ◌<◌, ◌≤◌, Bool, true, false, List, [], ◌∷◌, length, Option, Some, None, Result, Ok, Err, refl, sym, ap, subst, ◌∙◌, arith, eqb, leb, ltb, lit<}
+use Rattle.std.proofs.Common.{◌≡◌, ℕ, suc, ◌-◌, ◌<◌, Bool, true, false, List, [], ◌∷◌, length, Option, Some, None, Result, Ok, Err, refl, sym, ap, subst, ◌∙◌, arith, lit<}
 use Rattle.std.specs.Prelude.{is_none, codes, if◌then◌else◌}
 use Rattle.std.specs.Option.{option_map, option_and_then}
-use Rattle.std.proofs.lemmas.Bool.Decides.{nat_tests}
 use Rattle.serde_json.specs.Data.{Data}
 use Rattle.serde_json.specs.Find.{get, as_array}
-use Rattle.memory_image.specs.Image.{Span, end_of, IsLaidOut, lowest_overlap, refusal, with_span}
-use Rattle.memory_image.specs.declared.errors.ImageError.TheVariants as image_errors
+use Rattle.memory_image.specs.Image.{Span, IsLaidOut, refusal, with_span}
 use Rattle.memory_image.proofs.SpanAdds.{laid-with_span}
 use Rattle.unwind_laws.proofs.Booleans as lists
 use Rattle.unwind_arch.specs.declared.x86_64.Context.{Context}
 use Rattle.stack_steps.specs.declared.space.Module.{Module}
-use Rattle.stack_steps.specs.declared.space.SpaceError.TheVariants.{Wraps, Overlap}
-use Rattle.stack_steps.specs.Modules.{AreApart, fits, given_refusal, lowest_shared, module_refusal, with_module}
+use Rattle.stack_steps.specs.Modules.{AreApart, fits, given_refusal, with_module}
 use Rattle.stack_steps.proofs.Apart.{with_apart}
+use Rattle.stack_steps.proofs.Taking.{free_module, free_region}
 use Rattle.stack_steps.proofs.ContextLemmas.{IsWhole}
 use Rattle.stack_snapshot.specs.declared.errors.Field.{Field}
 use Rattle.stack_snapshot.specs.declared.errors.Field.TheVariants as fields
@@ -25,25 +23,6 @@ use Rattle.stack_snapshot.specs.Answers.{value_of, content_with, content_by, con
 
 -- ---- a snapshot's modules are apart
 
--- what refuses no module
-record IsFreeModule (taken : List Module) (m : Module) : Type 0 where
-  some : m.start < m.end
-  low : m.end < 2 ^ 64
-  alone : lowest_shared taken m.start m.end ≡ None
-
-free_module : (taken : List Module) (m : Module) → is_none (given_refusal taken m) ≡ true → IsFreeModule taken m
-free_module taken m free = by_size (fits m.tables (m.end - m.start)) free
-  where
-    go : (a : Bool) → leb (2 ^ 64) m.end ≡ a → (b : Bool) → leb m.end m.start ≡ b → (o : Option ℕ) → lowest_shared taken m.start m.end ≡ o → is_none (if a then Some Wraps else (if b then Some Wraps else option_map Overlap o)) ≡ true → IsFreeModule taken m
-    go true past b low o is e = absurd cc
-    go false near true low o is e = absurd cc
-    go false near false high (Some n) is e = absurd cc
-    go false near false high None is e = record { some = grind (arith, nat_tests); low = grind (arith, nat_tests); alone = is }
-
-    by_size : (b : Bool) → is_none (if b then module_refusal taken m else Some Wraps) ≡ true → IsFreeModule taken m
-    by_size true e = go (leb (2 ^ 64) m.end) refl (leb m.end m.start) refl (lowest_shared taken m.start m.end) refl e
-    by_size false e = absurd cc
-
 pub apart_after : (taken ms : List Module) → AreApart 0 taken → takes_modules taken ms ≡ true → AreApart 0 (modules_after taken ms)
 apart_after taken [] apart takes = apart
 apart_after taken (m ∷ ms) apart takes =
@@ -52,22 +31,6 @@ apart_after taken (m ∷ ms) apart takes =
     apart_after (with_module m taken) ms (with_apart taken 0 m apart (omega arith) free.some free.low free.alone) both.1
 
 -- ---- its memory is laid out
-
--- what refuses no region
-pub record IsFree (image : List Span) (s : Span) : Type 0 where
-  pub some : 0 < length s.bytes
-  pub fits : end_of s ≤ 2 ^ 64
-  pub apart : lowest_overlap image s.start (length s.bytes) ≡ None
-
-free_region : (image : List Span) (s : Span) → is_none (refusal image s.start s.bytes) ≡ true → IsFree image s
-free_region image s free = go (eqb (length s.bytes) 0) refl (ltb (2 ^ 64) (s.start + length s.bytes)) refl (lowest_overlap image s.start (length s.bytes)) refl free
-  where
-    go : (a : Bool) → eqb (length s.bytes) 0 ≡ a → (b : Bool) → ltb (2 ^ 64) (s.start + length s.bytes) ≡ b → (o : Option ℕ) → lowest_overlap image s.start (length s.bytes) ≡ o →
-        is_none (if a then Some image_errors.Empty else (if b then Some image_errors.Wraps else option_map image_errors.Overlap o)) ≡ true → IsFree image s
-    go true none b past o is e = absurd cc
-    go false some true past o is e = absurd cc
-    go false some false fits (Some n) is e = absurd cc
-    go false some false fits None is e = record { some = grind (arith, nat_tests); fits = grind (arith, nat_tests); apart = is }
 
 pub laid_after : (image ss : List Span) → IsLaidOut 0 image → takes_regions image ss ≡ true → IsLaidOut 0 (image_of image ss)
 laid_after image [] laid takes = laid

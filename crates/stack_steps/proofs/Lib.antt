@@ -26,6 +26,7 @@ pub mod StepAnswers
 pub mod StepParts
 pub mod StepUndone
 pub mod StopSamples
+pub mod Taking
 pub mod StoppedUndone
 pub mod PreparedSamples
 pub mod FactSteps

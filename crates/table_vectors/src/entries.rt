@@ -204,6 +204,11 @@ const FAULTS: &[(&[u8], Error)] = &[
         b"\xff\xff\xff\xff\x00\x00\x00\x00\x01\x00\x00\x00\x00",
         Error::UnexpectedEof,
     ),
+    // a length of eight bytes that is 0, which ends no table: an entry without content
+    (
+        b"\xff\xff\xff\xff\x00\x00\x00\x00\x00\x00\x00\x00",
+        Error::UnexpectedEof,
+    ),
 ];
 
 fn first_fault(table: &[u8]) -> Option<Error> {

@@ -104,6 +104,18 @@ fn refused_over<'a>(
     }
 }
 
+/// One region more over an image.
+fn over<'a>(
+    image: &'a MemoryImage<'a>,
+    address: u64,
+    bytes: &'a [u8],
+) -> Result<MemoryImage<'a>, Fail> {
+    let image = MemoryImage::over(image, address, bytes)
+        .ok()
+        .ok_or("refused")?;
+    Ok(image)
+}
+
 /// How many bytes the region of an address has from there on.
 fn count_from(image: &MemoryImage<'_>, address: u64) -> Option<usize> {
     match image.from(address) {
@@ -147,12 +159,15 @@ fn images_over_images_refuse_as_images_do(rt: HostRuntime) -> Result<(), Fail> {
         let refused = refused_over(&tables, address, bytes);
         expect_equal(&rt, refused, Some(error));
     }
-    let stack = MemoryImage::over(&tables, 0x7010, &[1, 2, 3, 4, 5, 6, 7, 8])
-        .ok()
-        .ok_or("fits")?;
-    let mut signal_stack = MemoryImage::over(&stack, 0x7ff0, &[9; 8])
-        .ok()
-        .ok_or("fits")?;
+    Ok(())
+}
+
+#[test]
+fn images_over_images_over_images_refuse_what_overlaps_any(rt: HostRuntime) -> Result<(), Fail> {
+    let mut tables: MemoryImage<'static> = MemoryImage::new(rt.alloc());
+    expect_equal(&rt, tables.add(0x7000, &[0xaa; 16]), Ok(()));
+    let stack = over(&tables, 0x7010, &[1, 2, 3, 4, 5, 6, 7, 8])?;
+    let mut signal_stack = over(&stack, 0x7ff0, &[9; 8])?;
     for (address, start) in [
         (0x6ff8, 0x7000),
         (0x7008, 0x7000),
@@ -162,29 +177,28 @@ fn images_over_images_refuse_as_images_do(rt: HostRuntime) -> Result<(), Fail> {
         let refused = refused_over(&signal_stack, address, &[0; 16]);
         expect_equal(&rt, refused, Some(ImageError::Overlap(start)));
     }
-    expect_equal(
-        &rt,
-        signal_stack.read_u64(0x700c),
-        Some(0x0403_0201_aaaa_aaaa),
-    );
-    expect_equal(
-        &rt,
-        signal_stack.read_u64(0x7ff0),
-        Some(0x0909_0909_0909_0909),
-    );
+    let overlap = Err(ImageError::Overlap(0x7ff0));
+    expect_equal(&rt, signal_stack.add(0x7ff0, &[1]), overlap);
+    let no_memory = Err(ImageError::NoMemory);
+    expect_equal(&rt, signal_stack.add(0x8000, &[1]), no_memory);
+    Ok(())
+}
+
+#[test]
+fn images_over_images_over_images_are_read(rt: HostRuntime) -> Result<(), Fail> {
+    let mut tables: MemoryImage<'static> = MemoryImage::new(rt.alloc());
+    expect_equal(&rt, tables.add(0x7000, &[0xaa; 16]), Ok(()));
+    let stack = over(&tables, 0x7010, &[1, 2, 3, 4, 5, 6, 7, 8])?;
+    let signal_stack = over(&stack, 0x7ff0, &[9; 8])?;
+    for (address, word) in [
+        (0x700c, 0x0403_0201_aaaa_aaaa),
+        (0x7ff0, 0x0909_0909_0909_0909),
+    ] {
+        expect_equal(&rt, signal_stack.read_u64(address), Some(word));
+    }
     for (address, count) in [(0x7010, Some(8)), (0x7017, Some(1)), (0x7018, None)] {
         expect_equal(&rt, count_from(&signal_stack, address), count);
     }
-    expect_equal(
-        &rt,
-        signal_stack.add(0x7ff0, &[1]),
-        Err(ImageError::Overlap(0x7ff0)),
-    );
-    expect_equal(
-        &rt,
-        signal_stack.add(0x8000, &[1]),
-        Err(ImageError::NoMemory),
-    );
     Ok(())
 }
 
