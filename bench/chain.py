@@ -96,26 +96,32 @@ def header_table(places):
     return bytes(table)
 
 
+def called(kind, index, state):
+    """The words that the prologue of a function of a kind pushes after the return address, from the highest address down, and
+    the return address into it, RSP, RBX and RBP in its body, by those of its caller."""
+    ra, sp, rbx, rbp = state
+    if kind < 2:
+        words, rbx, size = [ra, rbx] + [0, 0] * kind, index, 16 + 16 * kind
+    else:
+        words, rbp, size = [ra, rbp], sp - 16, 16
+        if kind == 3:
+            words += [rbx, 0, 0, 0]
+            rbx, size = index, 48
+    return words, (start_of(index) + 32, sp - size, rbx, rbp)
+
+
+def pushed(words):
+    """The bytes of a stack, by its words from the highest address down."""
+    return b"".join(word.to_bytes(8, "little") for word in reversed(words))
+
+
 def stack_of(prologues, seed):
     """The bytes of the stack, and the return address, RSP, RBX and RBP of the innermost state."""
-    ra, sp, rbx, rbp = 0, STACK_END, seed, 0
-    words = []
-    # from the outermost function inwards, and from the highest address down
+    state, words = (0, STACK_END, seed, 0), []
     for index, kind in reversed(list(enumerate(prologues))):
-        words.append(ra)
-        if kind < 2:
-            words.append(rbx)
-            words += [0, 0] * kind
-            rbx, size = index, 16 + 16 * kind
-        else:
-            words.append(rbp)
-            rbp, size = sp - 16, 16
-            if kind == 3:
-                words += [rbx, 0, 0, 0]
-                rbx, size = index, 48
-        sp -= size
-        ra = start_of(index) + 32
-    return b"".join(word.to_bytes(8, "little") for word in reversed(words)), (ra, sp, rbx, rbp)
+        more, state = called(kind, index, state)
+        words += more
+    return pushed(words), state
 
 
 def region(address, content):

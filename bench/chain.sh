@@ -39,11 +39,6 @@ inclusive() {
     python3 "$here/calls.py" cost "$work/unwind_cli.counts" "$@"
 }
 
-# a/b with two digits after the point
-ratio() {
-    awk -v a="$1" -v b="$2" 'BEGIN { if (b > 0) printf "%.2f", a / b; else printf "-" }'
-}
-
 # WORD HEADER: the rows of the table.
 measure() {
     word=$1

@@ -27,6 +27,17 @@ peak() {
     tail -1 "$work/time"
 }
 
+# WORD..: how often a run of $program on these words asks for memory.
+allocations() {
+    valgrind "$program" "$@" >"$work/told" 2>"$work/log"
+    sed -n 's/.*total heap usage: \([0-9,]*\) allocs.*/\1/p' "$work/log" | tr -d ,
+}
+
+# a/b with two digits after the point
+ratio() {
+    awk -v a="$1" -v b="$2" 'BEGIN { if (b > 0) printf "%.2f", a / b; else printf "-" }'
+}
+
 # CRATE: copies it and the crates below it to the work folder, with what was proved of them. What
 # isn't a crate here is a library of the kit.
 add_crate() {

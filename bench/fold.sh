@@ -90,11 +90,6 @@ fn main(rt: HostRuntime) -> Result<()> {
 }
 RATTLE
 
-# a/b with two digits after the point
-ratio() {
-    awk -v a="$1" -v b="$2" 'BEGIN { if (b > 0) printf "%.2f", a / b; else printf "-" }'
-}
-
 # The most that folding has of the heap. Reading the text takes more, but that is let go before.
 heap() {
     local word

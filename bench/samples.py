@@ -20,7 +20,7 @@ import sys
 from collections import Counter
 from dataclasses import dataclass
 
-from chain import FRAMES, LANGUAGES, TEXT, CATCH, CLEANUP, frame_table, kinds, region, start_of
+from chain import FRAMES, LANGUAGES, TEXT, CATCH, CLEANUP, called, frame_table, kinds, pushed, region, start_of
 
 BASE = 0x7F0000000000
 
@@ -42,24 +42,12 @@ class Start:
 def stack_of(prologues: list[int], calls: list[int], base: int) -> tuple[bytes, Start]:
     """The bytes of a stack from an address on, and the start of its innermost state, by the calls from the outermost inwards."""
     sizes = [(16, 32, 16, 48)[prologues[index]] for index in calls]
-    ra, sp, rbx, rbp = 0, base + sum(sizes), 0, 0
+    state = (0, base + sum(sizes), 0, 0)
     words: list[int] = []
     for index in calls:
-        kind = prologues[index]
-        words.append(ra)
-        if kind < 2:
-            words.append(rbx)
-            words += [0, 0] * kind
-            rbx, size = index, 16 + 16 * kind
-        else:
-            words.append(rbp)
-            rbp, size = sp - 16, 16
-            if kind == 3:
-                words += [rbx, 0, 0, 0]
-                rbx, size = index, 48
-        sp -= size
-        ra = start_of(index) + 32
-    return b"".join(word.to_bytes(8, "little") for word in reversed(words)), Start(ra, sp, rbx, rbp)
+        more, state = called(prologues[index], index, state)
+        words += more
+    return pushed(words), Start(*state)
 
 
 def calls_of(chosen: random.Random, frames: int, functions: int) -> list[int]:

@@ -142,17 +142,6 @@ fn main(rt: HostRuntime) -> Result<()> {
 }
 RATTLE
 
-# a/b with two digits after the point
-ratio() {
-    awk -v a="$1" -v b="$2" 'BEGIN { if (b > 0) printf "%.2f", a / b; else printf "-" }'
-}
-
-# COUNT WORD..: how often a run asks for memory.
-allocations() {
-    valgrind "$program" "$@" >"$work/told" 2>"$work/log"
-    sed -n 's/.*total heap usage: \([0-9,]*\) allocs.*/\1/p' "$work/log" | tr -d ,
-}
-
 # COUNT: a row of the table.
 measure() {
     local count=$1 none checked growth=- asked
