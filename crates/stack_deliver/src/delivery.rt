@@ -29,6 +29,8 @@ use std::alloc::Global;
 use unwind_arch::x86_64::{Context, RSP};
 
 /// The search for a handler, and where a frame takes the exception the passes toward it.
+///
+/// What is lent to each pass is cleared once a delivery.
 #[tactic(auto, unfolding(crate::specs::StackDelivery::delivery_through))]
 fn delivery_in_room<'t, 'a, L: Ledger>(
     languages: &Languages<'_>,
@@ -52,7 +54,6 @@ where
         (met_through (languages_of languages.now) space.now start exception resumes.now limit)
         steps.old.number steps.new.number }
 {
-    // Both are cleared once a delivery, and lent to each pass.
     let mut place = None;
     let mut rows = RowRoom::new();
     let mut stepper = Stepper::over(space, start.registers[RSP]);
@@ -64,7 +65,7 @@ where
         phase: Phase::Search,
         languages: *languages,
     });
-    let Some(stop) = unwind_frames_over(
+    let searched = unwind_frames_over(
         pass,
         &mut stepper,
         &mut state,
@@ -73,8 +74,8 @@ where
         &mut place,
         &mut rows,
         steps,
-    )?
-    else {
+    )?;
+    let Some(stop) = searched else {
         return Ok(without_landing(Outcome::EndOfStack));
     };
     if !stop.action().is_taken() {
