@@ -174,7 +174,7 @@ const PARTS: [(u64, u64, u64); 5] = [
 fn part_count_with(alloc: Global, index: usize, byte: u8) -> Result<Option<usize>, AllocError> {
     let mut file = Vec::from_slice(alloc, HEADERS_OF_NOTES)?;
     file.extend_from_slice(FILES)?;
-    if let Some(place) = file.get_mut(120 + index) {
+    if let Some(place) = file.get_mut(index.saturating_add(120)) {
         *place = byte;
     }
     let Some(parts) = mapped_parts(&file) else {
