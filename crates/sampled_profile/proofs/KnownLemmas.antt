@@ -1,10 +1,11 @@
 -- What is told of a sample whose stack is known.
 use Rattle.std.proofs.Common.{◌≡◌, ◌≢◌, ◌+◌, ◌≤◌, ℕ, true, List, [], ◌∷◌, ◌++◌, Option, Some, None, Result, Ok, Err, refl, sym, ap, subst, ◌∙◌, append_assoc, append-nil, arith}
-use Rattle.std.specs.Prelude.{map}
+use Rattle.std.specs.Prelude.{map, slice_index}
 use Rattle.std.specs.List.{count_by}
 use Rattle.memory_image.specs.declared.errors.ImageError.{ImageError}
 use Rattle.memory_image.specs.Image.{Span, IsLaidOut, refusal, with_span}
 use Rattle.memory_image.proofs.OverLemmas.{is_taken, over}
+use Rattle.unwind_definitions.specs.Columns as column
 use Rattle.unwind_definitions.specs.State.{State}
 use Rattle.unwind_arch.specs.declared.x86_64.Context.{Context}
 use Rattle.perf_data.specs.declared.errors.PerfError.{PerfError}
@@ -53,7 +54,7 @@ module _ (space : SpaceValue) (limit : ℕ) (apart : AreApart 0 space.modules) (
   pub walk_known : walk_of space limit sample ≡ known_walk space limit sample s callers is
   walk_known =
       let over_copy : SpaceValue = sample_space space is.start sample.stack in
-      let laid_there : IsLaidOut 0 over_copy.image = with_laid_out space.image _ sample.stack laid in
+      let laid_there : IsLaidOut 0 over_copy.image = with_laid_out space.image (slice_index is.start.registers column.rsp) sample.stack laid in
       let w = known_walked over_copy apart laid_there is.start limit true s callers is.known in
       let all : contexts_to_end over_copy limit is.start true ≡ w.0 = line_whole over_copy limit (start_state is.start true) w.0 w.1 in
       let returns : returns_of (contexts_to_end over_copy limit is.start true) ≡ map (λ (state : State). state.ra) (s ∷ callers) = ap returns_of all ∙ returns_shown w.0 (s ∷ callers) w.2.each in
@@ -97,18 +98,18 @@ module _ (t : Tables) (apart : AreApart 0 t.space.modules) (laid : IsLaidOut 0 t
   lines_known : sample_lines t.origins (name_of earlier sample.thread) sample (walk_of t.space t.limit sample) ≡ known_lines t earlier sample s callers is
   lines_known = ap (sample_lines t.origins (name_of earlier sample.thread) sample) (walk_known t.space t.limit apart laid sample s callers is)
 
-  abbrev placed_in : List RecordValue → Type 0
+  abbrev pub placed_in : List RecordValue → Type 0
   placed_in records = (after : List ℕ) × (script_text t records ≡ script_text t earlier ++ known_lines t earlier sample s callers is ++ after)
 
   placed : (later : List RecordValue) → placed_in (later ++ Sampled sample ∷ earlier)
-  placed [] = ([], ap (λ lines. script_text t earlier ++ lines) (lines_known ∙ sym append-nil))
+  placed [] =
+      let front = script_text t earlier in
+      ([], ap (λ lines. front ++ lines) lines_known ∙ sym (append-nil (front ++ known_lines t earlier sample s callers is)))
   placed (Sampled k ∷ later) =
       let rest = later ++ Sampled sample ∷ earlier in
       let more = sample_lines t.origins (name_of rest k.thread) k (walk_of t.space t.limit k) in
       let there = placed later in
-      let front = script_text t earlier in
-      let lines = known_lines t earlier sample s callers is in
-      (there.0 ++ more, ap (λ text. text ++ more) there.1 ∙ (append_assoc front (lines ++ there.0) more ∙ ap (λ text. front ++ text) (append_assoc lines there.0 more)))
+      (there.0 ++ more, ap (λ text. text ++ more) there.1 ∙ append_assoc (script_text t earlier ++ known_lines t earlier sample s callers is) there.0 more)
   placed (Mapped m ∷ later) = placed later
   placed (Named n ∷ later) = placed later
   placed (Forked k ∷ later) = placed later
@@ -121,7 +122,7 @@ module _ (t : Tables) (apart : AreApart 0 t.space.modules) (laid : IsLaidOut 0 t
 
 -- ---- in a whole profile
 
-abbrev made_read : List RecordValue → Result (List RecordValue) PerfError
+abbrev pub made_read : List RecordValue → Result (List RecordValue) PerfError
 made_read x = Ok x
 
 read_same : (x y : List RecordValue) → made_read x ≡ made_read y → x ≡ y
