@@ -108,7 +108,7 @@ def told(program: str, words: list[str], part: Part, tables: Object) -> list[str
     """The lines that `profile` writes of a part."""
     found = []
     with tempfile.NamedTemporaryFile("w", suffix=".json") as stream:
-        stream.write(text_of(tables))
+        stream.write(text_of(tables, most=None))
         stream.flush()
         for content in part.files:
             answer = run([program, *words, stream.name], content)

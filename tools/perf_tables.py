@@ -163,7 +163,7 @@ def main() -> None:
             mappings = read_profile(content).mappings[words.process]
         else:
             mappings = program_mappings(content)
-        print(text_of(tables_of(mappings)))
+        print(text_of(tables_of(mappings), most=None))
     except (Refused, OSError) as error:
         sys.exit(f"{words.file}: {error}")
 

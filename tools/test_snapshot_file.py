@@ -92,6 +92,12 @@ class Writing(unittest.TestCase):
             with open(f"{folder}/a.json", encoding="ascii") as stream:
                 self.assertEqual(stream.read(), "[]\n")
 
+    def test_a_long_text_is_refused_where_no_more_is_taken(self) -> None:
+        found = {"regions": [], "limit": 2}
+        self.assertIn('"limit": 2', text_of(found, most=None))
+        with self.assertRaises(Refused):
+            text_of(found, most=8)
+
     def test_what_is_there_is_left(self) -> None:
         with tempfile.TemporaryDirectory() as folder:
             write_whole(f"{folder}/a.json", "{}\n")

@@ -1,3 +1,4 @@
 pub mod Lines
 pub mod Due
 pub mod Sample
+pub mod KnownSample

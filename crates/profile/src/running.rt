@@ -1,5 +1,5 @@
 // One run of the program, from its words, its tables and its input to its output.
-ghost use Rattle.std.specs.Prelude.{◌≡◌, ◌≢◌, ℕ, List, Result, IfOk, IfSome, IsSome, None, ⊤};
+ghost use Rattle.std.specs.Prelude.{◌≡◌, ◌≢◌, ◌++◌, ℕ, List, Result, IfOk, IfSome, IsSome, None, ⊤};
 ghost use Rattle.std.specs.Io.KnownBytes.{Keeps};
 ghost use Rattle.memory_image.specs.Ends.{Rose};
 ghost use Rattle.memory_image.specs.Results.{result_map};
@@ -9,10 +9,14 @@ ghost use Rattle.command_ends.specs.Verdicts.{verdict};
 ghost use Rattle.perf_data.specs.declared.errors.PerfError.{PerfError};
 ghost use Rattle.perf_data.specs.FileValue.{perf_of};
 ghost use Rattle.perf_data.specs.Records.{RecordValue};
-ghost use Rattle.folded_stacks.specs.Counts.{StackCount, IsFolded};
+ghost use Rattle.perf_data.specs.Samples.{SampleValue};
+ghost use Rattle.unwind_definitions.specs.State.{State};
+ghost use Rattle.folded_stacks.specs.Counts.{StackCount, HasStack, IsFolded};
 ghost use Rattle.stack_snapshot.specs.Answers.{content_of, value_of};
 ghost use Rattle.stack_snapshot.specs.Content.{space_of};
 ghost use Rattle.stack_snapshot.specs.Origins.{OriginValue, origins_by};
+ghost use Rattle.sampled_profile.specs.KnownSamples.{BeginsKnownStack, HasSample};
+ghost use Rattle.sampled_profile.specs.KnownSamples.{known_lines, known_text};
 ghost use Rattle.sampled_profile.specs.Profiles.{Tables, profile_of, profile_text, stacks_of};
 ghost use Rattle.sampled_profile.specs.Profiles.{tables};
 ghost use Rattle.sampled_profile.specs.Scripts.{script_text};
@@ -195,6 +199,27 @@ pub fn run<I: Source, O: Sink>(
         (records : List RecordValue) → Asks Form.Script words.now tables.now bytes t records →
         Tells (verdict Status.Done (script_text t records)) result (O.holds output.old)
         (O.holds output.new)) }
+    // The line of a sample whose thread's stack is known, of each of whose frames it is known how its
+    // caller's state follows, in an ELF module by facts that its tables say, at any address, has the
+    // frames of the stack.
+    ensures folded_known { IfSome (I.left input.old) (λ bytes. (t : Tables)
+        (records earlier : List RecordValue) (sample : SampleValue) (s : State)
+        (callers : List State) →
+        Asks Form.Folded words.now tables.now bytes t records → HasSample records sample earlier →
+        (is : BeginsKnownStack t.space t.limit sample s callers) →
+        (lines : List StackCount) × IsFolded (stacks_of t records) lines ×
+        HasStack lines (known_text t earlier sample s callers is) ×
+        Tells (verdict Status.Done (profile_text lines)) result (O.holds output.old)
+        (O.holds output.new)) }
+    // So have the lines of it among the samples one after another, after those of the samples before.
+    ensures script_known { IfSome (I.left input.old) (λ bytes. (t : Tables)
+        (records earlier : List RecordValue) (sample : SampleValue) (s : State)
+        (callers : List State) →
+        Asks Form.Script words.now tables.now bytes t records → HasSample records sample earlier →
+        (is : BeginsKnownStack t.space t.limit sample s callers) →
+        (after : List ℕ) × Tells (verdict Status.Done
+        (script_text t earlier ++ known_lines t earlier sample s callers is ++ after)) result
+        (O.holds output.old) (O.holds output.new)) }
     // Whatever the source tells, words that name no file are answered so, and no others.
     ensures usage { ComesExactly result Status.Usage (request_in words.now ≡ None) }
     ensures usage_told { request_in words.now ≡ None →

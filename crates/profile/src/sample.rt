@@ -1,10 +1,13 @@
 // Runs that are asked for. Nothing of them runs.
-ghost use Rattle.std.specs.Prelude.{◌∷◌, [], codes};
+ghost use Rattle.std.specs.Prelude.{◌≡◌, ◌∷◌, [], codes};
+ghost use Rattle.unwind_laws.specs.Pushing as pushing;
 ghost use Rattle.perf_data.specs.Sample.{one_sample};
 ghost use Rattle.folded_stacks.specs.Counts.{IsFolded, counts_of};
+ghost use Rattle.sampled_profile.specs.KnownSamples.{BeginsKnownStack, HasSample, known_text};
 ghost use Rattle.sampled_profile.specs.Profiles.{stacks_of};
 ghost use Rattle.profile.specs.declared.request.Form.TheVariants.{Folded, Script};
 ghost use Rattle.profile.specs.Due.{Asks};
+ghost use Rattle.profile.specs.KnownSample as known;
 ghost use Rattle.profile.specs.Sample.{file, records, walked};
 
 /// A perf.data file of 440 bytes, whose one sample was taken in a function that pushes RBX, is asked
@@ -18,4 +21,19 @@ pub fn a_profile_is_asked_for()
 pub fn a_script_is_asked_for()
     ensures { Asks Script (codes "--script" ∷ codes "tables.json" ∷ []) file one_sample walked
         records }
+{}
+
+/// A perf.data file of 336 bytes is asked for with the tables of the same function, in whose body its
+/// one sample was taken. With the copy of the thread's whole stack it is known from the bytes on how
+/// the caller's state follows, and this is the stack's text.
+pub fn a_known_stack_is_asked_for()
+    ensures asked { Asks Folded (codes "tables.json" ∷ []) file known.bytes walked known.records }
+    ensures script { Asks Script (codes "--script" ∷ codes "tables.json" ∷ []) file known.bytes
+        walked known.records }
+    ensures has { HasSample known.records known.sample_value known.earlier }
+    ensures begins { BeginsKnownStack walked.space walked.limit known.sample_value pushing.start
+        (pushing.caller ∷ []) }
+    ensures text { (is : BeginsKnownStack walked.space walked.limit known.sample_value
+        pushing.start (pushing.caller ∷ [])) → known_text walked known.earlier known.sample_value
+        pushing.start (pushing.caller ∷ []) is ≡ codes "ab;a.out+0x1006" }
 {}

@@ -7,3 +7,4 @@ pub mod TextLemmas
 pub mod WalkLemmas
 pub mod ProfileLemmas
 pub mod ScriptLemmas
+pub mod KnownLemmas

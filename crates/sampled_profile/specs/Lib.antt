@@ -7,6 +7,8 @@ pub mod Texts
 pub mod Profiles
 pub mod Scripts
 pub mod Told
+-- What is told of a sample whose stack is known.
+pub mod KnownSamples
 -- What the code holds.
 pub mod CountViews
 pub mod Tables

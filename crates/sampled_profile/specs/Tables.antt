@@ -1,13 +1,14 @@
 -- Stacks by their addresses with their counts, as a map keeps them. No public clause cites this.
-use Rattle.std.specs.Prelude.{◌≡◌, ℕ, ◌+◌, cond, List, [], ◌∷◌, Option, option_map}
+use Rattle.std.specs.Prelude.{◌≡◌, ℕ, ◌+◌, ◌≤◌, false, cond, List, [], ◌∷◌, length, slice_range, Option, option_map}
 use Rattle.std.specs.List.{count_by, sum_by}
 use Rattle.folded_stacks.specs.Counts.{StackCount}
 use Rattle.folded_stacks.specs.Stacks.{is_same}
 use Rattle.stack_snapshot.specs.Origins.{OriginValue}
+use Rattle.sampled_profile.specs.declared.frame_texts.KeptText.{KeptText}
 use Rattle.sampled_profile.specs.declared.stack_table.SampledStack.{SampledStack}
 use Rattle.sampled_profile.specs.CountViews.{counted_times}
 use Rattle.sampled_profile.specs.Ends.{StackWalk}
-use Rattle.sampled_profile.specs.Texts.{stack_text}
+use Rattle.sampled_profile.specs.Texts.{frame_text, stack_text}
 
 -- what is told of a stack
 abbrev pub shown_name : SampledStack → Option (List ℕ)
@@ -43,3 +44,11 @@ ShowsStacks origins entries stacks = (text : List ℕ) → shown_by origins text
 abbrev pub all_counted : List OriginValue → List (SampledStack × ℕ) → List StackCount → List StackCount
 all_counted origins [] lines = lines
 all_counted origins (e ∷ entries) lines = all_counted origins entries (counted_times e.1 (shown_text origins e.0) lines)
+
+-- ---- texts that are kept
+
+-- the text of a caller's frame with this return address stands there among the bytes of all of them
+pub record IsKept (origins : List OriginValue) (texts : List ℕ) (kept : KeptText) : Type 0 where
+  pub ordered : kept.start ≤ kept.end
+  pub within : kept.end ≤ length texts
+  pub text : slice_range texts kept.start kept.end ≡ frame_text origins false kept.address

@@ -1,5 +1,5 @@
 // The texts of frames, each of which is written once.
-ghost use Rattle.std.specs.Prelude.{◌≡◌, ◌++◌, OnOk, false};
+ghost use Rattle.std.specs.Prelude.{◌≡◌, ◌++◌, IfOk, OnOk, false};
 ghost use Rattle.sampled_profile.specs.Tables.{shown_text};
 ghost use Rattle.sampled_profile.specs.Texts.{frame_text, frames_text};
 
@@ -8,57 +8,99 @@ use crate::texts::{put_end, put_frame, put_root};
 use stack_report::Report;
 use stack_snapshot::Origins;
 use std::alloc::{AllocError, Global};
-use std::collections::HashMap;
 use std::marker::Model;
 
-/// The texts of callers' frames by their return addresses, as far as they were asked.
+// In how many places texts are kept, each by its address.
+const PLACES: u64 = 8192;
+
+/// Where the text of the caller's frame with a return address is kept.
+#[derive(Clone, Copy)]
+pub(crate) struct KeptText {
+    address: u64,
+    start: usize,
+    end: usize,
+}
+
+// Of the address 0, which no frame has.
+const NO_TEXT: KeptText = KeptText {
+    address: 0,
+    start: 0,
+    end: 0,
+};
+
+/// The texts of callers' frames by their return addresses: the last one of each place.
 ///
 /// Contracts see the files by which frames are told.
 #[derive(Drop)]
 pub(crate) struct FrameTexts<'o> {
-    alloc: Global,
     origins: &'o Origins,
-    texts: HashMap<u64, Vec<u8>>,
+    places: Vec<KeptText>,
+    // one after another, those that are kept no more among them
+    texts: Vec<u8>,
 }
 
 impl<'o> Model for FrameTexts<'o> {
-    ghost use Rattle.std.specs.Prelude.{◌≡◌, ℕ, List, IfSome, false, nat_eq};
-    ghost use Rattle.std.specs.HashMap.{get};
+    ghost use Rattle.std.specs.Prelude.{All, List};
     ghost use Rattle.stack_snapshot.specs.Origins.{OriginValue};
-    ghost use Rattle.sampled_profile.specs.Texts.{frame_text};
+    ghost use Rattle.sampled_profile.specs.Tables.{IsKept};
 
     ghost Value = { List OriginValue };
 
     ghost view = { λ t. t.origins.now };
 
-    ghost invariant = { λ t. (address : ℕ) → IfSome (get nat_eq t.texts address)
-        (λ text. text.items ≡ frame_text t.origins.now false address) };
+    ghost invariant = { λ t. All (IsKept t.origins.now t.texts.items) t.places.items };
 }
 
 impl<'o> FrameTexts<'o> {
-    /// No texts yet, of frames in the modules of these files. It takes no memory yet.
-    pub(crate) fn new(alloc: Global, origins: &'o Origins) -> FrameTexts<'o>
-        ensures { result ≡ origins.now }
+    /// No texts yet, of frames in the modules of these files.
+    ///
+    /// # Errors
+    ///
+    /// `AllocError` where memory ran out.
+    pub(crate) fn new(alloc: Global, origins: &'o Origins) -> Result<FrameTexts<'o>, AllocError>
+        ensures { IfOk result (λ texts. texts ≡ origins.now) }
     {
-        FrameTexts {
-            alloc,
+        let mut places = Vec::new(alloc);
+        places.resize(PLACES as usize, NO_TEXT)?;
+        Ok(FrameTexts {
             origins,
-            texts: HashMap::new(alloc),
-        }
+            places,
+            texts: Vec::new(alloc),
+        })
     }
 
-    /// Puts the text of a caller's frame last, and keeps it.
-    fn put_new_caller(&mut self, report: &mut Report, address: u64) -> Result<(), AllocError>
+    /// Keeps the text of an address in a place.
+    fn keep(&mut self, place: usize, address: u64, text: &[u8]) -> Result<(), AllocError>
+        requires { text.now ≡ frame_text self.old false address }
+        ensures { self.new ≡ self.old }
+    {
+        let start = self.texts.len();
+        self.texts.extend_from_slice(text)?;
+        let end = self.texts.len();
+        if place < self.places.len() {
+            self.places[place] = KeptText {
+                address,
+                start,
+                end,
+            };
+        }
+        Ok(())
+    }
+
+    /// Puts the text of a caller's frame last, and keeps it in a place.
+    fn put_new_caller(
+        &mut self,
+        report: &mut Report,
+        place: usize,
+        address: u64,
+    ) -> Result<(), AllocError>
         ensures text { OnOk result
             (report.new ≡ report.old ++ frame_text self.old false address) }
         ensures files { self.new ≡ self.old }
     {
-        let mut text = Report::new(self.alloc);
-        put_frame(&mut text, self.origins, false, address)?;
-        report.put_bytes(text.bytes())?;
-        let kept = Vec::from_slice(self.alloc, text.bytes())?;
-        self.texts.insert(address, kept)?;
-        Ok(())
+        let offset = report.bytes().len();
+        put_frame(report, self.origins, false, address)?;
+        self.keep(place, address, &report.bytes()[offset..])
     }
 
     /// Puts the text of a caller's frame last.
@@ -67,9 +109,12 @@ impl<'o> FrameTexts<'o> {
             (report.new ≡ report.old ++ frame_text self.old false address) }
         ensures files { self.new ≡ self.old }
     {
-        match self.texts.get(&address) {
-            Some(text) => report.put_bytes(text),
-            None => self.put_new_caller(report, address),
+        let place = (address % PLACES) as usize;
+        match self.places.get(place) {
+            Some(kept) if kept.address == address => {
+                report.put_bytes(&self.texts[kept.start..kept.end])
+            }
+            _ => self.put_new_caller(report, place, address),
         }
     }
 

@@ -5,8 +5,11 @@ ghost use Rattle.perf_data.specs.Records.{RecordValue};
 ghost use Rattle.stack_steps.specs.Modules.{SpaceValue};
 ghost use Rattle.stack_snapshot.specs.Origins.{OriginValue};
 ghost use Rattle.perf_data.specs.Views.{record_value, records_left, sample_value};
-ghost use Rattle.folded_stacks.specs.Counts.{IsFolded};
+ghost use Rattle.unwind_definitions.specs.State.{State};
+ghost use Rattle.perf_data.specs.Samples.{SampleValue};
+ghost use Rattle.folded_stacks.specs.Counts.{HasStack, IsFolded};
 ghost use Rattle.sampled_profile.specs.Kept.{Counts, IsTally, Knows};
+ghost use Rattle.sampled_profile.specs.KnownSamples.{BeginsKnownStack, HasSample, known_text};
 ghost use Rattle.sampled_profile.specs.Names.{name_of};
 ghost use Rattle.sampled_profile.specs.Profiles.{profile_of, profile_text, read_all, stacks_of};
 ghost use Rattle.sampled_profile.specs.Profiles.{tables};
@@ -195,7 +198,17 @@ pub fn profile_of(
     ensures adds_up { IfOk result (λ profile. (read : List RecordValue) →
         read_all file.now.records ≡ Ok read → sum_by (λ line. line.count) profile ≡
         length (stacks_of (tables space.now origins.now limit) read)) }
+    // The line of a sample whose thread's stack is known, of each of whose frames it is known how its
+    // caller's state follows, in an ELF module by facts that its tables say, at any address, has the
+    // frames of the stack.
+    ensures known { IfOk result (λ profile. (read earlier : List RecordValue)
+        (sample : SampleValue) (s : State) (callers : List State) →
+        read_all file.now.records ≡ Ok read → HasSample read sample earlier →
+        (is : BeginsKnownStack space.now limit sample s callers) → HasStack profile
+        (known_text (tables space.now origins.now limit) earlier sample s callers is)) }
 {
+    // No two of its modules share an address, as a space's type says.
+    let _ = space.image();
     let stacks = tally_records(alloc, space, limit, file.records())?;
     let counts = counts_by_text(alloc, origins, &stacks)?;
     Ok(Profile { counts })

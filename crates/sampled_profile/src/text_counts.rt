@@ -24,7 +24,7 @@ pub(crate) fn counts_by_text(
     ensures { IfOk result (λ counts. (stacks : List (List ℕ)) →
         ShowsStacks origins.now table.now.counts.entries stacks → counts ≡ counts_of stacks) }
 {
-    let mut texts = FrameTexts::new(alloc, origins);
+    let mut texts = FrameTexts::new(alloc, origins)?;
     let mut counts = StackCounts::new(alloc);
     let mut text = Report::new(alloc);
     for (stack, count) in &table.counts {

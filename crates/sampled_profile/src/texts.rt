@@ -1,6 +1,7 @@
 // The text of a stack.
 ghost use Rattle.std.specs.Prelude.{◌≡◌, ◌≤◌, ◌==◌, ◌++◌, ◌∷◌, Bool, IfOk, IsTrue, OnOk, [], true, map};
 ghost use Rattle.std.specs.Option.{option_map};
+ghost use Rattle.stack_snapshot.specs.Origins.{file_name};
 ghost use Rattle.sampled_profile.specs.Ends.{end_word};
 ghost use Rattle.sampled_profile.specs.Texts.{frame_text, place_text, root_text, word_text};
 ghost use Rattle.sampled_profile.specs.Texts.{written, written_name};
@@ -65,6 +66,19 @@ pub(crate) fn put_root(report: &mut Report, name: Option<&[u8]>) -> Result<(), A
     }
 }
 
+/// The name of a file, without its folders. The last slash is sought from the end, since most names
+/// are short.
+fn name_at(path: &[u8]) -> &[u8]
+    ensures { result.now ≡ file_name path.now }
+{
+    for place in (0..path.len()).rev() {
+        if path[place] == b'/' {
+            return &path[place + 1..];
+        }
+    }
+    path
+}
+
 /// Puts an address last, by the file that it lies in, where there is one.
 pub(crate) fn put_place(
     report: &mut Report,
@@ -76,7 +90,7 @@ pub(crate) fn put_place(
 {
     match origin {
         Some(origin) => {
-            put_name(report, origin.name())?;
+            put_name(report, name_at(origin.path()))?;
             report.put_field("+", address.wrapping_sub(origin.bias()))
         }
         None => report.put_field("", address),

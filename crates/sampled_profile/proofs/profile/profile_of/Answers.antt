@@ -3,6 +3,7 @@ use Rattle.perf_data.specs.Views.{records_left}
 use Rattle.stack_snapshot.specs.Origins.{OriginValue}
 use Rattle.sampled_profile.specs.Profiles.{profile_of, tables}
 use Rattle.sampled_profile.specs.Told.{Gives}
+use Rattle.sampled_profile.proofs.KnownLemmas.{profile_known}
 use Rattle.sampled_profile.proofs.ProfileLemmas.{due_counted, failed_profile, profile_folded, profile_adds_up}
 use Rattle.sampled_profile.proofs.profile.profile_of.Goals as goal
 
@@ -32,3 +33,7 @@ returns-clause-adds_up c =
     let origins = c.args.origins.now in
     profile_adds_up (by origins) c.args.file.now.records (records_left c.records.result) c.in_ok-counts.counts c.records.ensures.left
     (due_counted by origins (records_left c.records.result) c.in_ok-stacks.stacks c.in_ok-counts.counts c.in_ok-stacks.ensures c.in_ok-counts.ensures)
+
+pub returns-clause-known : goal.returns-clause-known
+returns-clause-known c = λ read earlier sample s callers reads has is.
+    profile_known (tables c.args.space.now c.args.origins.now c.args.limit) c.image.ensures.apart c.image.ensures.laid_out c.args.file.now.records c.in_ok-counts.counts (returns-clause-lines c) read earlier sample s callers reads has is

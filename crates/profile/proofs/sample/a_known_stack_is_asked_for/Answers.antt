@@ -1,0 +1,54 @@
+use Rattle.std.proofs.Common.{[], refl, lit≤}
+use Rattle.std.specs.Char.{encode_utf8}
+use Rattle.std.specs.Fmt.{digits}
+use Rattle.std.specs.Str.{is_utf8, chars}
+use Rattle.std.specs.Prelude.{codes}
+use Rattle.hex.specs.Hex.{decode_pairs}
+use Rattle.serde_json.proofs.OnLiterals.{serde_json_on_literals}
+use Rattle.stack_report.specs.Digits.{hexadecimal}
+use Rattle.stack_snapshot.specs.Answers.{value_of}
+use Rattle.stack_snapshot.specs.Snapshot.{regions_of, modules_of, start_of, resumes_of, limit_of, interrupted_of, whole_numbers, snapshot_of}
+use Rattle.sampled_profile.specs.Names.{name_in}
+use Rattle.sampled_profile.specs.Texts.{frame_text, stack_text}
+use Rattle.profile.specs.KnownSample.{value}
+use Rattle.profile.specs.Sample.{content}
+use Rattle.profile.proofs.KnownSampleRead.{known_sample_begins, known_sample_is_read}
+use Rattle.profile.proofs.sample.a_known_stack_is_asked_for.Goals as goal
+
+pub returns-clause-asked : goal.returns-clause-asked
+unfolding is_utf8 chars encode_utf8 decode_pairs serde_json_on_literals value_of regions_of modules_of start_of resumes_of limit_of interrupted_of whole_numbers snapshot_of
+returns-clause-asked c = record {
+  path = codes "tables.json";
+  named = refl;
+  short = lit≤ tt;
+  content = content;
+  reads = refl;
+  walked = refl;
+  profile = value;
+  holds = known_sample_is_read;
+  whole = refl;
+}
+
+pub returns-clause-script : goal.returns-clause-script
+unfolding is_utf8 chars encode_utf8 decode_pairs serde_json_on_literals value_of regions_of modules_of start_of resumes_of limit_of interrupted_of whole_numbers snapshot_of
+returns-clause-script c = record {
+  path = codes "tables.json";
+  named = refl;
+  short = lit≤ tt;
+  content = content;
+  reads = refl;
+  walked = refl;
+  profile = value;
+  holds = known_sample_is_read;
+  whole = refl;
+}
+
+pub returns-clause-has : goal.returns-clause-has
+returns-clause-has c = ([], refl)
+
+pub returns-clause-begins : goal.returns-clause-begins
+returns-clause-begins c = known_sample_begins
+
+pub returns-clause-text : goal.returns-clause-text
+unfolding is_utf8 chars encode_utf8 serde_json_on_literals value_of digits hexadecimal name_in frame_text stack_text
+returns-clause-text c = λ is. refl
