@@ -82,10 +82,25 @@ fn functions_by_their_addresses(rt: HostRuntime) {
 #[test]
 fn parts_of_the_file(rt: HostRuntime) {
     let sections = section_table(&FILE);
-    assert_eq!(rt; sections, Some(FilePart { offset: 0x1f0, size: 448 }));
-    let parts = symbol_parts(bytes_of(FilePart { offset: 0x1f0, size: 448 }));
-    let symbols = FilePart { offset: 0x50, size: 0x108 };
-    let strings = FilePart { offset: 0x158, size: 0x4a };
+    assert_eq!(rt;
+        sections,
+        Some(FilePart {
+            offset: 0x1f0,
+            size: 448
+        })
+    );
+    let parts = symbol_parts(bytes_of(FilePart {
+        offset: 0x1f0,
+        size: 448,
+    }));
+    let symbols = FilePart {
+        offset: 0x50,
+        size: 0x108,
+    };
+    let strings = FilePart {
+        offset: 0x158,
+        size: 0x4a,
+    };
     assert_eq!(rt; parts, Some(SymbolParts { symbols, strings }));
     assert_eq!(rt; section_table(&FILE[..63]), None);
     assert_eq!(rt; symbol_parts(&FILE[0x1f0..0x1f0 + 256]), None);
