@@ -32,10 +32,14 @@ position_in part a = (part.offset + (a - part.start)) % 2 ^ 64
 abbrev pub code_at : ℕ → Phdr → Bool
 code_at place h = (h.p_type == 1) && (h.p_flags % 2 == 1) && nat_le h.p_offset place && nat_lt (place - h.p_offset) h.p_filesz
 
+-- the address of a byte of a segment
+abbrev pub address_with : ℕ → Phdr → ℕ
+address_with place h = (h.p_vaddr + (place - h.p_offset)) % 2 ^ 64
+
 -- the address of a byte of code, by the first segment that has it
 abbrev pub address_by : ℕ → List Phdr → Option ℕ
 address_by place [] = None
-address_by place (h ∷ hs) = if code_at place h then Some ((h.p_vaddr + (place - h.p_offset)) % 2 ^ 64) else address_by place hs
+address_by place (h ∷ hs) = if code_at place h then Some (address_with place h) else address_by place hs
 
 -- an address of a part, as the part's file counts
 abbrev pub file_address : List ℕ → PartValue → ℕ → Option ℕ
@@ -65,6 +69,11 @@ place_in_part files a part = place_in_file (files part.path) part a
 
 abbrev pub place_at_index : (List ℕ → List ℕ) → List PartValue → ℕ → ℕ → Option PlaceValue
 place_at_index files parts a index = option_and_then (place_in_part files a) (slice_get parts index)
+
+-- the parts, none where they aren't told
+abbrev pub parts_of : Option (List PartValue) → List PartValue
+parts_of None = []
+parts_of (Some parts) = parts
 
 -- where an address lies, by the first part that holds it
 unfoldable pub place_of : (List ℕ → List ℕ) → List PartValue → ℕ → Option PlaceValue

@@ -3,7 +3,7 @@ ghost use Rattle.std.specs.Prelude.{◌≡◌, ℕ, List, IfOk};
 ghost use Rattle.std.specs.Option.{option_and_then, option_map};
 ghost use Rattle.core_file.specs.MappedViews.{part_of};
 ghost use Rattle.elf_symbols.specs.Functions.{function_at, function_of};
-ghost use Rattle.mapped_names.specs.Places.{address_by, code_at, file_address, function_value};
+ghost use Rattle.mapped_names.specs.Places.{address_by, address_with, code_at, file_address, function_value};
 ghost use Rattle.mapped_names.specs.Places.{function_by, place_in_file, place_value, position_in};
 ghost use Rattle.mapped_names.specs.Reading.{IsNamedFile, table_in_bytes};
 
@@ -47,6 +47,15 @@ fn has_code_at(header: &Phdr, position: u64) -> bool
         && position - header.p_offset < header.p_filesz
 }
 
+/// The address of a byte of a segment, as the file counts, by where it stands in the file.
+fn address_with(header: &Phdr, position: u64) -> u64
+    ensures { result ≡ address_with position header.now }
+{
+    header
+        .p_vaddr
+        .wrapping_add(position.saturating_sub(header.p_offset))
+}
+
 /// The address at which a byte of code lies, as the file counts, by where it stands in the file.
 fn address_by(headers: &Records<'_, Phdr>, position: u64) -> Option<u64>
     ensures { result ≡ address_by position headers.now }
@@ -54,11 +63,7 @@ fn address_by(headers: &Records<'_, Phdr>, position: u64) -> Option<u64>
     for i in 0..headers.len() {
         let header = headers.at(i);
         if has_code_at(&header, position) {
-            return Some(
-                header
-                    .p_vaddr
-                    .wrapping_add(position.saturating_sub(header.p_offset)),
-            );
+            return Some(address_with(&header, position));
         }
     }
     None

@@ -1,0 +1,6 @@
+use Rattle.std.proofs.Common.{sym, arith}
+use Rattle.std.proofs.lemmas.List.{take_all}
+use Rattle.mapped_names.proofs.reading.header_of.Goals as goal
+
+pub returns-then-front-le-HEADER_SIZE : goal.returns-then-front-le-HEADER_SIZE
+returns-then-front-le-HEADER_SIZE c = sym (take_all 64 c.args.front.now (omega arith))
