@@ -1,5 +1,5 @@
 // Files whose functions are asked.
-ghost use Rattle.std.specs.Prelude.{◌≡◌, ℕ, List, Some, IfOk, IsErrOf, map, position, slice_get};
+ghost use Rattle.std.specs.Prelude.{◌≡◌, ℕ, List, Some, IfOk, IfSome, IsErrOf, map, position, slice_get};
 ghost use Rattle.std.specs.Option.{option_map};
 ghost use Rattle.core_file.specs.MappedViews.{part_of, parts_left};
 ghost use Rattle.mapped_files.specs.Files.{AreTold};
@@ -89,6 +89,13 @@ fn index_at(parts: &[MappedPart<'_>], address: u64) -> Option<usize>
     first_holder(parts, address)
 }
 
+/// The part at an index.
+fn get_part<'a>(parts: &[MappedPart<'a>], index: usize) -> Option<MappedPart<'a>>
+    ensures { result ≡ slice_get parts.now index }
+{
+    parts.get(index).copied()
+}
+
 impl<'a, F: Files> Naming<'a, F> {
     /// The files of these parts, none of which is read yet; no files where there are none.
     ///
@@ -116,7 +123,15 @@ impl<'a, F: Files> Naming<'a, F> {
     fn part_at(&self, index: usize) -> Option<MappedPart<'a>>
         ensures { option_map part_of result ≡ slice_get self.now.parts index }
     {
-        self.parts.get(index).copied()
+        get_part(&self.parts, index)
+    }
+
+    /// The file of the part of a number, where it is read.
+    fn kept(&self, index: usize) -> Option<&NamedFile>
+        ensures { (all : List ℕ → List ℕ) → AreTold (F.content self.now.files) all →
+            IfSome result (λ file. IsFileAt all self.now.parts index file.now) }
+    {
+        self.read.get(&(index as u64))
     }
 
     /// The file of the part of a number, read.
@@ -163,7 +178,7 @@ impl<'a, F: Files> Naming<'a, F> {
         ensures fault { IsErrOf result PartError.Fault → F.may_fail self.old.files }
         ensures same { self.new ≡ self.old }
     {
-        match self.read.get(&(index as u64)) {
+        match self.kept(index) {
             Some(file) => Ok(place_in(self.alloc, file, part, address)?),
             None => self.place_by_reading(index, part, address),
         }

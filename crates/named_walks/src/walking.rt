@@ -62,8 +62,8 @@ fn put_states<F: Files>(
     ensures fault { IsErrOf result PartError.Fault → F.may_fail names.old.files }
     ensures same { names.new ≡ names.old }
 {
-    for (index, state) in visited.iter().enumerate() {
-        put_state(report, names, index, state)?;
+    for index in 0..visited.len() {
+        put_state(report, names, index, &visited[index])?;
     }
     Ok(())
 }
