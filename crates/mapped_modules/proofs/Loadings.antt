@@ -4,7 +4,8 @@ use Rattle.std.proofs.lemmas.List.{map-append}
 use Rattle.core_file.specs.MappedParts.{PartValue}
 use Rattle.mapped_modules.specs.declared.loading.LoadedModule.{LoadedModule}
 use Rattle.mapped_modules.specs.declared.places.ModulePlace.{ModulePlace}
-use Rattle.mapped_modules.specs.Loading.{LoadedValue, front_of, loaded_at, loaded_from, loaded_value, place_in}
+use Rattle.mapped_files.specs.Files.{front_of}
+use Rattle.mapped_modules.specs.Loading.{LoadedValue, loaded_at, loaded_from, loaded_value, place_in}
 
 -- a part that is code
 pub loaded_next : (all : List ℕ → List ℕ) (items : List LoadedModule) (one : LoadedModule) (part : PartValue) (rest : List PartValue) (place : ModulePlace) (whole : List LoadedValue)

@@ -1,5 +1,5 @@
 -- What is read of the files that were mapped: of each its front, and the segment that has its frame table.
-use Rattle.std.specs.Prelude.{◌≡◌, ℕ, List, take, drop, map, Option, Some, None}
+use Rattle.std.specs.Prelude.{◌≡◌, ℕ, List, map, Option, Some, None}
 use Rattle.std.specs.List.{filter_map}
 use Rattle.std.specs.Option.{option_and_then, option_map}
 use Rattle.memory_image.specs.Image.{Span}
@@ -9,7 +9,8 @@ use Rattle.stack_steps.specs.declared.space.Module.{Module}
 use Rattle.mapped_modules.specs.declared.loading.Front.{Front}
 use Rattle.mapped_modules.specs.declared.loading.LoadedModule.{LoadedModule}
 use Rattle.mapped_modules.specs.declared.places.ModulePlace.{ModulePlace}
-use Rattle.mapped_modules.specs.ElfFront.{program_headers}
+use Rattle.mapped_files.specs.Files.{front_of, part_at}
+use Rattle.mapped_files.specs.Front.{program_headers}
 use Rattle.mapped_modules.specs.Places.{place_of}
 
 -- a module, and the segment that has its frame table
@@ -19,17 +20,6 @@ pub record LoadedValue : Type 0 where
 
 abbrev pub loaded_value : LoadedModule → LoadedValue
 loaded_value l = record { code = l.code; table = record { start = l.address; bytes = l.bytes.items } }
-
--- The files are told: this is what the file of each path has.
-abbrev pub AreTold : (List ℕ → Option (List ℕ)) → (List ℕ → List ℕ) → Type 0
-AreTold content files = (path : List ℕ) → content path ≡ Some (files path)
-
--- of what a file has: so many bytes from an offset on
-abbrev pub part_at : ℕ → ℕ → List ℕ → List ℕ
-part_at offset size file = take size (drop offset file)
-
-abbrev pub front_of : List ℕ → List ℕ
-front_of file = part_at 0 4096 file
 
 abbrev pub place_by : PartValue → List Phdr → Option ModulePlace
 place_by part hs = place_of hs part

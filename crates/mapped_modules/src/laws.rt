@@ -1,14 +1,9 @@
 //! Laws of the definitions that the contracts of this crate cite. Nothing of it runs.
-ghost use Rattle.std.specs.Prelude.{ℕ, List, Some};
+ghost use Rattle.std.specs.Prelude.{List};
 ghost use Rattle.memory_image.specs.Image.{IsLaidOut, Span};
 ghost use Rattle.stack_steps.specs.Modules.{AreApart};
-ghost use Rattle.mapped_modules.specs.Loading.{AreTold, LoadedValue};
+ghost use Rattle.mapped_modules.specs.Loading.{LoadedValue};
 ghost use Rattle.mapped_modules.specs.Spaces.{space_of_core};
-
-/// Files whose bytes are told are so: what each has may be anything.
-pub fn files_may_have_any_bytes()
-    ensures { (files : List ℕ → List ℕ) → AreTold (λ path. Some (files path)) files }
-{}
 
 /// What a core's threads are walked over is memory that is laid out, and modules no two of which share an address.
 pub fn spaces_of_cores_stand()

@@ -8,13 +8,11 @@
 //! Sources: the System V gABI for ELF headers and program headers, and the LSB for `PT_GNU_EH_FRAME`.
 #![tactic(auto)]
 
-mod elf;
-mod files;
 mod laws;
 mod loading;
 mod places;
 mod spaces;
 
-pub use files::{Files, PartError};
 pub use loading::{LoadedModule, loaded_modules};
+pub use mapped_files::{Files, PartError};
 pub use spaces::space_of_core;

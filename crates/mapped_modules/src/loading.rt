@@ -1,18 +1,15 @@
 // Reading of the modules' tables.
 ghost use Rattle.std.specs.Prelude.{◌≡◌, ℕ, List, IfOk, IsErrOf, map};
 ghost use Rattle.core_file.specs.MappedViews.{part_of, parts_left};
-ghost use Rattle.mapped_modules.specs.Loading.{AreTold, IsFront, IsLastFront, front_of, loaded_at};
-ghost use Rattle.mapped_modules.specs.Loading.{loaded_from, loaded_value, place_in};
+ghost use Rattle.mapped_files.specs.Files.{AreTold};
+ghost use Rattle.mapped_modules.specs.Loading.{IsFront, IsLastFront, loaded_at, loaded_from};
+ghost use Rattle.mapped_modules.specs.Loading.{loaded_value, place_in};
 
-use crate::elf::program_headers;
-use crate::files::{Files, PartError};
 use crate::places::{ModulePlace, place_of};
 use core_file::{MappedPart, MappedParts};
+use mapped_files::{FRONT_SIZE, Files, PartError, program_headers};
 use stack_steps::Module;
 use std::alloc::Global;
-
-/// How many bytes of a file are read for its program headers.
-const FRONT_SIZE: u64 = 4096;
 
 /// A module, and the segment of its file that has its frame table, at its address.
 #[derive(Drop)]

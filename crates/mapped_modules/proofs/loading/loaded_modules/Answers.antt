@@ -1,7 +1,8 @@
 use Rattle.std.proofs.Common.{◌≡◌, ◌∙◌, ℕ, List, ◌∷◌, ◌++◌, map, Some, None, sym, ap}
 use Rattle.core_file.specs.MappedParts.{PartValue}
 use Rattle.core_file.specs.MappedViews.{part_of, parts_left}
-use Rattle.mapped_modules.specs.Loading.{front_of, loaded_from, loaded_value, place_in}
+use Rattle.mapped_files.specs.Files.{front_of}
+use Rattle.mapped_modules.specs.Loading.{loaded_from, loaded_value, place_in}
 use Rattle.mapped_modules.proofs.Loadings.{loaded_next, loaded_passed}
 use Rattle.mapped_modules.proofs.loading.loaded_modules.Goals as goal
 use Rattle.mapped_modules.proofs.loading.loaded_modules.Goals.{in-Some-place_in+in_ok-load+in_ok-push, in_default-place_in}

@@ -1,6 +1,7 @@
 use Rattle.std.proofs.Common.{◌≡◌, ◌++◌, ℕ, List, length, map}
 use Rattle.core_file.specs.MappedViews.{parts_left}
-use Rattle.mapped_modules.specs.Loading.{AreTold, IsLastFront, loaded_from, loaded_value}
+use Rattle.mapped_files.specs.Files.{AreTold}
+use Rattle.mapped_modules.specs.Loading.{IsLastFront, loaded_from, loaded_value}
 use Rattle.mapped_modules.proofs.loading.loaded_modules.Given as goal
 
 abbrev pub invariant-loop-part : goal.invariant-loop-part

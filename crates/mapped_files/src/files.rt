@@ -15,7 +15,7 @@ pub enum PartError {
 }
 
 impl From<AllocError> for PartError {
-    ghost use Rattle.mapped_modules.specs.declared.files.PartError.TheVariants.{Memory};
+    ghost use Rattle.mapped_files.specs.declared.files.PartError.TheVariants.{Memory};
 
     ghost from_gives = { λ _ e. e ≡ Memory };
 
@@ -25,7 +25,7 @@ impl From<AllocError> for PartError {
 }
 
 impl<T: Drop> From<AllocFailed<T>> for PartError {
-    ghost use Rattle.mapped_modules.specs.declared.files.PartError.TheVariants.{Memory};
+    ghost use Rattle.mapped_files.specs.declared.files.PartError.TheVariants.{Memory};
 
     ghost from_gives = { λ _ e. e ≡ Memory };
 

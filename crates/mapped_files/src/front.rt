@@ -1,13 +1,16 @@
 // The front of an ELF file: its header and its program headers. System V gABI, chapter "Object Files", part "ELF Header".
 ghost use Rattle.std.specs.Prelude.{◌≡◌, ◌+◌, ◌≤◌, length, IsTrue};
 ghost use Rattle.memory_image.specs.Words.{u16_at};
-ghost use Rattle.mapped_modules.specs.ElfFront.{has_elf_header, program_headers};
+ghost use Rattle.mapped_files.specs.Front.{has_elf_header, program_headers};
 
 use fde_finders::Phdr;
 use memory_image::{Records, u64_at};
 
 // the magic number, the class of 64 bits, and the form whose numbers have their lowest byte first
 const IDENTIFICATION: [u8; 6] = [0x7f, b'E', b'L', b'F', 2, 1];
+
+/// How many bytes of a file are read for its ELF header and its program headers.
+pub const FRONT_SIZE: u64 = 4096;
 
 const HEADER_SIZE: usize = 64;
 
@@ -45,7 +48,7 @@ fn has_elf_header(front: &[u8]) -> bool
 
 /// The program headers of a file that begins so. `None` where it is no ELF file of x86-64, or they
 /// don't lie within the front.
-pub(crate) fn program_headers(front: &[u8]) -> Option<Records<'_, Phdr>>
+pub fn program_headers(front: &[u8]) -> Option<Records<'_, Phdr>>
     ensures { result ≡ program_headers front.now }
 {
     if !has_elf_header(front) {
