@@ -7,6 +7,7 @@ use Rattle.hex.specs.Hex.{decode_pairs}
 use Rattle.serde_json.proofs.OnLiterals.{serde_json_on_literals}
 use Rattle.stack_report.specs.Digits.{hexadecimal}
 use Rattle.stack_snapshot.specs.Answers.{value_of}
+use Rattle.stack_snapshot.specs.Origins.{origins_of}
 use Rattle.stack_snapshot.specs.Snapshot.{regions_of, modules_of, start_of, resumes_of, limit_of, interrupted_of, whole_numbers, snapshot_of}
 use Rattle.sampled_profile.specs.Names.{name_in}
 use Rattle.sampled_profile.specs.Texts.{frame_text, stack_text}
@@ -50,5 +51,5 @@ pub returns-clause-begins : goal.returns-clause-begins
 returns-clause-begins c = known_sample_begins
 
 pub returns-clause-text : goal.returns-clause-text
-unfolding is_utf8 chars encode_utf8 serde_json_on_literals value_of digits hexadecimal name_in frame_text stack_text
+unfolding is_utf8 chars encode_utf8 serde_json_on_literals value_of origins_of digits hexadecimal name_in frame_text stack_text
 returns-clause-text c = λ is. refl
