@@ -39,7 +39,8 @@ fn has_header(front: &[u8]) -> bool
 }
 
 /// Where the section headers lie in a file that begins so, with at least its 64 first bytes. `None`
-/// where that is no ELF file of 64 bits whose numbers have their lowest byte first, or it has none.
+/// where that is no ELF file of 64 bits whose numbers have their lowest byte first, or its section
+/// headers aren't said to have 64 bytes each. Where it has none, the size is 0.
 pub fn section_table(front: &[u8]) -> Option<FilePart>
     ensures { result ≡ section_table front.now }
 {

@@ -97,7 +97,7 @@ fn first_of_type(headers: &Records<'_, SectionHeader>, kind: u32) -> Option<Sect
     None
 }
 
-/// The section of symbols: `.symtab`, or `.dynsym` where there is none.
+/// The section of symbols: the first of type `SHT_SYMTAB`, or of type `SHT_DYNSYM` where there is none.
 fn symbol_section(headers: &Records<'_, SectionHeader>) -> Option<SectionHeader>
     ensures { result ≡ symbol_section headers.now }
 {

@@ -46,8 +46,8 @@ fn has_elf_header(front: &[u8]) -> bool
         && u16_at(front, ENTRY_SIZE_OFFSET) == PROGRAM_HEADER_SIZE
 }
 
-/// The program headers of a file that begins so. `None` where it is no ELF file of x86-64, or they
-/// don't lie within the front.
+/// The program headers of a file that begins so. `None` where it is no ELF file of x86-64, they
+/// aren't said to have 56 bytes each, or they don't lie within the front.
 pub fn program_headers(front: &[u8]) -> Option<Records<'_, Phdr>>
     ensures { result ≡ program_headers front.now }
 {

@@ -1,3 +1,3 @@
--- Where an address of memory lies in a file that was mapped, what is read of files, and a worked example.
+-- Where an address of memory lies in a file that was mapped, and what is read of files.
 pub mod Places
 pub mod Reading

@@ -1,7 +1,8 @@
 //! The functions at addresses of files that were mapped, by the symbols of these files.
 //!
 //! [`Naming`] says where an address lies: in which file, at which address as that file counts, and in
-//! which of its functions. A file is read when the first address in it is asked, and kept.
+//! which of its functions. Of each part that was mapped its file is read when the first address in the
+//! part is asked, and what was read is kept with the part.
 //!
 //! Source: the System V gABI, chapters "Program Loading and Dynamic Linking" and "Symbol Table".
 #![tactic(auto)]

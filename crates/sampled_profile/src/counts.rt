@@ -51,7 +51,7 @@ impl StackCounts {
         }
         let key = Vec::from_slice(self.alloc, stack)?;
         match self.counts.insert(key, more)? {
-            // Other frames have the same text, where two files have one name.
+            // Another stack may have the same text, as where two files have one name.
             Some(before) => {
                 let key = Vec::from_slice(self.alloc, stack)?;
                 self.counts.insert(key, before + more)?;

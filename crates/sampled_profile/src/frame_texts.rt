@@ -1,4 +1,4 @@
-// The texts of frames, each of which is written once.
+// The texts of callers' frames by their addresses, so that most are written once.
 ghost use Rattle.std.specs.Prelude.{◌≡◌, ◌++◌, IfOk, OnOk, false};
 ghost use Rattle.sampled_profile.specs.Tables.{shown_text};
 ghost use Rattle.sampled_profile.specs.Texts.{frame_text, frames_text};
@@ -21,7 +21,7 @@ pub(crate) struct KeptText {
     end: usize,
 }
 
-// Of the address 0, which no frame has.
+// Of the address 0, whose text is empty.
 const NO_TEXT: KeptText = KeptText {
     address: 0,
     start: 0,

@@ -109,7 +109,7 @@ pub(crate) fn address_inside(address: u64, interrupted: bool) -> u64
     }
 }
 
-/// Puts a frame last, with a semicolon before it.
+/// Puts a frame last, with a semicolon before it. Nothing of the address 0.
 #[tactic(auto, unfolding(crate::specs::Texts::frame_text))]
 pub(crate) fn put_frame(
     report: &mut Report,
