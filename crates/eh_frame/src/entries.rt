@@ -160,7 +160,7 @@ impl<'a> EhFrame<'a> {
         ensures { IfOk result (λ list.
             ListsFdes (bases_of bases.now) (table_of self.now) list) }
     {
-        let mut list = FdeList::new(alloc);
+        let mut list = FdeList::for_table(alloc, self.bytes.len())?;
         let mut offset = 0;
         loop {
             let mut input = self.from(offset);

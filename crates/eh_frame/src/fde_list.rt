@@ -12,6 +12,9 @@ use crate::prepared::PreparedFunction;
 use encoded_pointers::{Bases, Cursor};
 use std::alloc::{AllocError, Global};
 
+// How many bytes most descriptions have at least, with what stands before them.
+const FDE_SIZE: usize = 32;
+
 /// Descriptions, each with place for its rows, and the common information entries that they name:
 /// each once where they ascend in the table, as in most, and else again where it isn't found.
 #[derive(Drop)]
@@ -24,17 +27,21 @@ pub(crate) struct FdeList<'a> {
 }
 
 impl<'a> FdeList<'a> {
-    /// An empty list.
-    pub(crate) fn new(alloc: Global) -> FdeList<'a>
-        ensures cies { result.cies.items ≡ [] }
-        ensures fdes { result.fdes.items ≡ [] }
+    /// An empty list, with room for as many descriptions as most tables of so many bytes have.
+    ///
+    /// # Errors
+    ///
+    /// Where memory runs out.
+    pub(crate) fn for_table(alloc: Global, size: usize) -> Result<FdeList<'a>, AllocError>
+        ensures cies { IfOk result (λ list. list.cies.items ≡ []) }
+        ensures fdes { IfOk result (λ list. list.fdes.items ≡ []) }
     {
-        FdeList {
+        Ok(FdeList {
             cies: Vec::new(alloc),
-            fdes: Vec::new(alloc),
+            fdes: Vec::with_capacity(alloc, size / FDE_SIZE)?,
             last: 0,
             before: 0,
-        }
+        })
     }
 
     /// The index of the common information entry at an offset, where it is one of the last two that

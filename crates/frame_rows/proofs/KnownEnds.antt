@@ -1,7 +1,7 @@
 -- What a common information entry's program ends with that sets no location, wherever the same bytes stand.
 use Rattle.std.proofs.Common.{◌≡◌, List, ℕ, None, sym, subst, ◌∙◌}
 use Rattle.unwind_definitions.specs.Input.{Input}
-use Rattle.unwind_definitions.specs.Instructions.{Coding, Program, program}
+use Rattle.unwind_definitions.specs.Instructions.{Coding, program}
 use Rattle.frame_rows.specs.Movable.{IsMovable}
 use Rattle.frame_rows.specs.Running.{IsEndOf}
 use Rattle.frame_rows.specs.KnownCommons.{KnowsEnd}

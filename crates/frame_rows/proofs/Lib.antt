@@ -7,6 +7,7 @@ mod CannotFollow
 mod Reading
 mod Together
 mod StretchSteps
+mod TurnSteps
 mod Ends
 mod Parts
 mod Adding
@@ -19,3 +20,4 @@ mod Serving
 mod Moving
 mod Walking
 mod KnownEnds
+mod SameRows

@@ -2,11 +2,7 @@
 use Rattle.std.proofs.Common.{◌≡◌, ◌≢◌, ℕ, zero, suc, ◌+◌, ◌^◌, ◌<◌, ◌≤◌, Bool, true, false, cond, List, [], ◌∷◌, length, length-set, set, map, get_or, Option, Some, None, Result, Ok, Err, refl, sym, ap, ◌∙◌, subst, arith, eq-eqb}
 use Rattle.std.specs.Prelude.{is_some, nat_lt, ◌==◌}
 use Rattle.std.specs.List.{insert, remove, refill}
-use Rattle.std.specs.List.Sorted.{IsSearchInRange, IsBinarySearchResult, IsNonDecreasingBy}
-use Rattle.std.specs.Ordering.{nat_cmp, ordering_index}
 use Rattle.std.proofs.lemmas.Bool.{lt-ltb, le-ltb, ltb-true, ltb-false, eqb-true, eqb-false}
-use Rattle.std.proofs.lemmas.Bool.Decides.{nat_tests}
-use Rattle.std.proofs.lemmas.Cmp.{ranked}
 use Rattle.arrayvec.proofs.ArrayVecLemmas.{items-with_items}
 use Rattle.unwind_definitions.specs.Instructions.{Rule}
 use Rattle.std.proofs.lemmas.List.{length-map, map-set}
@@ -228,79 +224,6 @@ already_none c q es none = go (c == q) refl
     go : (b : Bool) → (c == q) ≡ b → rule_in es q ≡ cond (c == q) None (rule_in es q)
     go true is = let same : c ≡ q = eqb-true c q is in rw is (rw same at none)
     go false is = rw is refl
-
--- ---- what a search finds
-
-from_low : (low i : ℕ) (es : List (ℕ × Rule)) (d : ℕ × Rule) → AscendsFrom low es → i < length es → low ≤ (get_or es i d).0
-from_low low i [] d asc lt = absurd (omega arith)
-from_low low zero (e ∷ es) d asc lt = asc.0
-from_low low (suc i) (e ∷ es) d asc lt = let h : low ≤ e.0 = asc.0 in let k = from_low (suc e.0) i es d asc.1 (omega arith) in omega arith
-
-columns_rise : (low i j : ℕ) (es : List (ℕ × Rule)) (d : ℕ × Rule) → AscendsFrom low es → i ≤ j → j < length es → (get_or es i d).0 ≤ (get_or es j d).0
-columns_rise low i j [] d asc le lt = absurd (omega arith)
-columns_rise low zero zero (e ∷ es) d asc le lt = omega arith
-columns_rise low zero (suc j) (e ∷ es) d asc le lt = let k = from_low (suc e.0) j es d asc.1 (omega arith) in omega arith
-columns_rise low (suc i) zero (e ∷ es) d asc le lt = absurd (omega arith)
-columns_rise low (suc i) (suc j) (e ∷ es) d asc le lt = columns_rise (suc e.0) i j es d asc.1 (omega arith) (omega arith)
-
-module _ (c : ℕ) (d : ℕ × Rule) where
-  found_there : (low k i : ℕ) (es : List (ℕ × Rule)) → AscendsFrom low es → i < length es → (get_or es i d).0 ≡ c → find_in c k es ≡ Ok (k + i)
-  found_there low k i [] asc lt same = absurd (omega arith)
-  found_there low k zero (e ∷ es) asc lt same =
-      let not_less : nat_lt e.0 c ≡ false = le-ltb e.0 c (omega arith) in
-      let is : (e.0 == c) ≡ true = eq-eqb e.0 c same in
-      rw (not_less, is) (ap Ok (omega arith))
-  found_there low k (suc i) (e ∷ es) asc lt same =
-      let h = from_low (suc e.0) i es d asc.1 (omega arith) in
-      let less : nat_lt e.0 c ≡ true = lt-ltb e.0 c (omega arith) in
-      rw less (found_there (suc e.0) (k + 1) i es asc.1 (omega arith) same ∙ ap Ok (omega arith))
-
-  gap_there : (k i : ℕ) (es : List (ℕ × Rule)) → i ≤ length es → ((j : ℕ) → j < i → (get_or es j d).0 < c) → ((j : ℕ) → i ≤ j → j < length es → c < (get_or es j d).0) → find_in c k es ≡ Err (k + i)
-  gap_there k zero [] le below over = ap Err (omega arith)
-  gap_there k (suc i) [] le below over = absurd (omega arith)
-  gap_there k zero (e ∷ es) le below over =
-      let more : c < e.0 = over 0 (omega arith) (omega arith) in
-      let not_less : nat_lt e.0 c ≡ false = le-ltb e.0 c (omega arith) in
-      let other : (e.0 == c) ≡ false = differ e.0 c (λ same. omega arith) in
-      rw (not_less, other) (ap Err (omega arith))
-  gap_there k (suc i) (e ∷ es) le below over =
-      let before : e.0 < c = below 0 (omega arith) in
-      let less : nat_lt e.0 c ≡ true = lt-ltb e.0 c before in
-      rw less (gap_there (k + 1) i es (omega arith) (λ j lt. below (suc j) (omega arith)) (λ j le' lt. over (suc j) (omega arith) (omega arith)) ∙ ap Err (omega arith))
-
--- a binary search by column ends where `find_in` does
-module _ (r : Register) (items : List (Register × RegisterRule)) (asc : AscendsFrom 0 (map entry_of items)) where
-  column_at : (i : ℕ) (d : Register × RegisterRule) → (get_or (map entry_of items) i (entry_of d)).0 ≡ (get_or items i d).0.0
-  column_at i d = ap (λ (e : ℕ × Rule). let n : ℕ = e.0 in n) (get_or-map entry_of items i d)
-
-  comparisons_rise : IsNonDecreasingBy (λ e. ordering_index (nat_cmp e.0.0 r.0)) items
-  comparisons_rise i j d le lt =
-      let n = length-map items entry_of in
-      let rises = columns_rise 0 i j (map entry_of items) (entry_of d) asc le (omega arith) in
-      let one = column_at i d in let other = column_at j d in
-      let columns : (get_or items i d).0.0 ≤ (get_or items j d).0.0 = omega arith in
-      grind (arith, nat_tests)
-
-  sought_there : (result : Result ℕ ℕ) → IsSearchInRange result (length items) → IsBinarySearchResult (λ e. nat_cmp e.0.0 r.0) items result → result ≡ find_in r.0 0 (map entry_of items)
-  sought_there (Ok i) bound equal =
-      let d : Register × RegisterRule = (record { 0 = 0 }, rules.Undefined) in
-      let n = length-map items entry_of in
-      let same : (get_or items i d).0.0 ≡ r.0 = ranked _ r.0 _ (sym (equal d)) in
-      let at : 0 + i ≡ i = omega arith in
-      sym (found_there r.0 (entry_of d) 0 0 i (map entry_of items) asc (omega arith) (column_at i d ∙ same) ∙ ap Ok at)
-  sought_there (Err i) bound parted =
-      let d : Register × RegisterRule = (record { 0 = 0 }, rules.Undefined) in
-      let n = length-map items entry_of in
-      let sides = parted comparisons_rise in
-      let below : (j : ℕ) → j < i → (get_or (map entry_of items) j (entry_of d)).0 < r.0 = λ j lt.
-      let same = column_at j d in let less : (get_or items j d).0.0 < r.0 = ranked _ r.0 _ (sym (sides.0 j d (omega arith) lt)) in omega arith in
-      let over : (j : ℕ) → i ≤ j → j < length (map entry_of items) → r.0 < (get_or (map entry_of items) j (entry_of d)).0 = λ j le lt.
-      let same = column_at j d in let more : r.0 < (get_or items j d).0.0 = ranked _ r.0 _ (sym (sides.1 j d le (omega arith))) in omega arith in
-      let at : 0 + i ≡ i = omega arith in
-      sym (gap_there r.0 (entry_of d) 0 i (map entry_of items) (omega arith) below over ∙ ap Err at)
-
-pub sought : (r : Register) (items : List (Register × RegisterRule)) (self : List (ℕ × Rule)) (result : Result ℕ ℕ) → map entry_of items ≡ self → AscendsFrom 0 self → IsSearchInRange result (length items) → IsBinarySearchResult (λ e. nat_cmp e.0.0 r.0) items result → result ≡ find_in r.0 0 self
-sought r items self result view asc bound found = sought_there r items (subst (AscendsFrom 0) (sym view) asc) result bound found ∙ ap (find_in r.0 0) view
 
 -- what was written through the slice of all items
 pub written : {X : Type 0} (xs ys : List X) (i : ℕ) (x : X) → ys ≡ xs → refill (length xs) xs (set ys i x) ≡ set xs i x

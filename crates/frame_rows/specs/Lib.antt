@@ -7,8 +7,10 @@ pub mod Rows
 pub mod Left
 pub mod KeptRows
 pub mod Stretches
+pub mod Turns
 pub mod Bodies
 pub mod TableRows
+pub mod SameRules
 pub mod BegunPrograms
 pub mod Begun
 pub mod Movable

@@ -16,6 +16,10 @@ use Rattle.frame_rows.specs.declared.stretch.Instructions.{Instructions}
 abbrev pub left_of : Coding → Instructions → Program
 left_of coding i = program_from i.left coding (at i.input)
 
+-- the first instruction of a program, and what follows it
+abbrev pub BeginsWith : Program → Instruction → Program → Type 0
+BeginsWith before i rest = before ≡ record { instructions = i ∷ rest.instructions; fault = rest.fault }
+
 -- the first instruction of a program and what follows it, or why there is none
 abbrev pub IsNext : Program → Result (Option CallFrameInstruction) Fault → Program → Type 0
 IsNext before (Ok None) rest = before ≡ record { instructions = []; fault = None }

@@ -1,7 +1,8 @@
 //! The instructions of frame programs. DWARF 5 sections 6.4.2 and 7.24.
 
-ghost use Rattle.std.specs.Prelude.{◌≡◌, ◌*◌};
-ghost use Rattle.unwind_definitions.specs.Instructions.{instruction, Advance, Write};
+ghost use Rattle.std.specs.Prelude.{◌≡◌, ◌*◌, IfSome, Ok};
+ghost use Rattle.unwind_definitions.specs.Instructions.{Coding as Operands, instruction};
+ghost use Rattle.unwind_definitions.specs.Instructions.{Advance, CfaOffset, Offset, Write};
 ghost use Rattle.unwind_definitions.specs.Pointers.{direct};
 ghost use Rattle.encoded_pointers.specs.Readers.{GivesOr};
 ghost use Rattle.encoded_pointers.specs.CursorViews.{at};
@@ -41,6 +42,13 @@ pub(crate) enum CallFrameInstruction<'a> {
     DefineCfaOffset(u64),
     DefineCfaExpression(&'a [u8]),
     SetArgumentSize(u64),
+}
+
+/// A register, and where the word that it had is kept, as an offset from the CFA.
+#[derive(Clone, Copy)]
+pub(crate) struct SavedRegister {
+    pub(crate) register: Register,
+    pub(crate) offset: u64,
 }
 
 #[inline(always)]
@@ -96,12 +104,39 @@ fn read_expression<'a>(input: &mut Cursor<'a>) -> Result<&'a [u8], Error>
     Ok(block.bytes())
 }
 
-// The next instruction, whose first byte was read and is below 64. What begins a row is looked for
-// first. It and those after it are inlined, so that the byte is told apart once, for all groups.
-// DWARF 5 section 6.4.2.1.
-#[tactic(auto, unfolding(crate::specs::InstructionViews::operation_read))]
+// The next instruction, whose first byte was read and is below 64. Those that most programs consist
+// of are told apart first.
+#[tactic(auto, unfolding(crate::specs::InstructionViews::operation_read, crate::specs::InstructionViews::cfa_read, crate::specs::InstructionViews::offset_read, crate::specs::InstructionViews::rule_read, crate::specs::InstructionViews::state_read))]
 #[inline(always)]
 fn read_operation<'a>(
+    input: &mut Cursor<'a>,
+    coding: Coding,
+    operation: u8,
+) -> Result<CallFrameInstruction<'a>, Error>
+    ensures { GivesOr meaning result
+        (operation_read (coding_in coding.entry) operation (at input.old)) (at input.new) }
+{
+    match operation {
+        DW_CFA_NOP => Ok(CallFrameInstruction::Nop),
+        DW_CFA_DEF_CFA_OFFSET => Ok(CallFrameInstruction::DefineCfaOffset(input.read_uleb128()?)),
+        DW_CFA_REMEMBER_STATE => Ok(CallFrameInstruction::RememberState),
+        DW_CFA_RESTORE_STATE => Ok(CallFrameInstruction::RestoreState),
+        DW_CFA_ADVANCE_LOC1 => Ok(advance(coding, input.read_u8()? as u32)),
+        _ => {
+            // a copy is read, so that a cursor by which none is needed can stay in registers
+            let mut rest = *input;
+            let instruction = read_row_creation(&mut rest, coding, operation)?;
+            *input = rest;
+            Ok(instruction)
+        }
+    }
+}
+
+// The same, group by group: what begins a row first. Not inlined, as few instructions are of these.
+// Those after it are, so that the byte is told apart once. DWARF 5 section 6.4.2.1.
+#[tactic(auto, unfolding(crate::specs::InstructionViews::operation_read))]
+#[inline(never)]
+fn read_row_creation<'a>(
     input: &mut Cursor<'a>,
     coding: Coding,
     operation: u8,
@@ -266,4 +301,52 @@ pub(crate) fn read_instruction<'a>(
         DW_CFA_RESTORE => Ok(CallFrameInstruction::RestoreInitialRule(Register(low as u16))),
         _ => read_operation(input, coding, low),
     }
+}
+
+/// The offset that the next instruction gives the CFA, where it is `DW_CFA_def_cfa_offset`, as most
+/// are. Else the cursor is unspecified.
+#[tactic(auto, unfolding(crate::specs::InstructionViews::operation_read, crate::specs::InstructionViews::cfa_read, unwind_definitions::specs::Instructions::instruction_of))]
+#[inline(always)]
+pub(crate) fn read_cfa_offset(input: &mut Cursor<'_>) -> Option<u64>
+    ensures { (coding : Operands) → IfSome result (λ offset.
+        instruction coding (at input.old) ≡ Ok (CfaOffset offset, at input.new)) }
+{
+    match input.read_u8() {
+        Ok(DW_CFA_DEF_CFA_OFFSET) => input.read_uleb128().ok(),
+        _ => None,
+    }
+}
+
+/// By how much the next instruction raises the location, where it is `DW_CFA_advance_loc` and that
+/// is a word. Else the cursor is unspecified.
+#[tactic(auto, unfolding(unwind_definitions::specs::Instructions::instruction_of))]
+#[inline(always)]
+pub(crate) fn read_advance(input: &mut Cursor<'_>, coding: Coding) -> Option<u64>
+    ensures { IfSome result (λ delta. instruction (coding_in coding.entry) (at input.old) ≡
+        Ok (Advance delta, at input.new)) }
+{
+    let byte = input.read_u8().ok()?;
+    if byte / 64 != DW_CFA_ADVANCE_LOC {
+        return None;
+    }
+    u64::from(byte % 64).checked_mul(coding.code_factor)
+}
+
+/// The register that the next instruction says is saved, where it is `DW_CFA_offset`. Else the cursor
+/// is unspecified.
+#[tactic(auto, unfolding(unwind_definitions::specs::Instructions::instruction_of))]
+#[inline(always)]
+pub(crate) fn read_saved(input: &mut Cursor<'_>, coding: Coding) -> Option<SavedRegister>
+    ensures { IfSome result (λ saved. instruction (coding_in coding.entry) (at input.old) ≡
+        Ok (Write saved.register.0 (Offset saved.offset), at input.new)) }
+{
+    let byte = input.read_u8().ok()?;
+    if byte / 64 != DW_CFA_OFFSET {
+        return None;
+    }
+    let offset = read_offset(input, coding).ok()?;
+    Some(SavedRegister {
+        register: Register((byte % 64) as u16),
+        offset,
+    })
 }

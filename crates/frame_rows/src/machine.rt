@@ -1,7 +1,7 @@
 //! The virtual machine that frame programs run on, and what each instruction does to it.
 //! DWARF 5 sections 6.4.1 and 6.4.2.
 
-ghost use Rattle.std.specs.Prelude.{◌≡◌, ℕ, Some, IfOk, IfErr, OnErr, false};
+ghost use Rattle.std.specs.Prelude.{◌≡◌, ℕ, Some, IfOk, IfErr, IfSome, OnErr, false};
 ghost use Rattle.std.specs.Option.{option_map};
 ghost use Rattle.unwind_definitions.specs.Row.{ColumnAndOffset, has_column};
 ghost use Rattle.frame_rows.specs.Rules.{cfa_meaning};
@@ -104,6 +104,7 @@ impl<'a> RememberedState<'a> {
     fn take_into(&mut self, state: &mut RowState<'a>) -> bool
         ensures some { result ≡ true → (self.old ≡ Some state.new) × (self.new ≡ None) }
         ensures none { result ≡ false → self.old ≡ None }
+        ensures same { result ≡ false → (self.new ≡ self.old) × (state.new ≡ state.old) }
     {
         if !self.is_some {
             return false;
@@ -123,6 +124,10 @@ pub(crate) struct Machine<'a> {
     // the rules that the CIE's program ended with; none while that one runs, which has no rules
     // before
     initial: RegisterRules<'a>,
+    // the indexes of rows of a table that have the rules of the state and of the remembered one, if
+    // such are known
+    rules_of: Option<usize>,
+    remembered_rules_of: Option<usize>,
 }
 
 impl<'a> Machine<'a> {
@@ -139,6 +144,8 @@ impl<'a> Machine<'a> {
     ghost use Rattle.frame_rows.specs.Running.{initial_rules, push};
     ghost use Rattle.frame_rows.specs.Rows.{IsLast, row_in_place};
     ghost use Rattle.frame_rows.specs.Stretches.{LeadsOn};
+    ghost use Rattle.frame_rows.specs.KeptRows.{Kept};
+    ghost use Rattle.frame_rows.specs.SameRules.{HasRules, IsRowWith, KnowsRows};
 
     /// A machine that is to run the program of a common information entry.
     pub(crate) fn new() -> Machine<'a>
@@ -149,6 +156,8 @@ impl<'a> Machine<'a> {
             state: RowState::new(),
             remembered: RememberedState::new(),
             initial: RegisterRules::new(),
+            rules_of: None,
+            remembered_rules_of: None,
         }
     }
 
@@ -163,6 +172,7 @@ impl<'a> Machine<'a> {
         self.state.saved_args_size = 0;
         self.remembered.forget();
         self.initial.clear();
+        self.rules_of = None;
     }
 
     /// Makes what the entry's program said the beginning of a description's program, which starts
@@ -187,14 +197,36 @@ impl<'a> Machine<'a> {
     /// Makes it one that is to run a description's program from a location on, after a common
     /// information entry's program that ended with a row, whatever it ran before.
     pub(crate) fn begin_after(&mut self, common: &RowState<'a>, location: u64)
-        ensures { (instructions : List Instruction) →
+        ensures state { (instructions : List Instruction) →
             IsStateOf common.now (record { common = []; own = instructions }) →
             Represents location self.new (from_common instructions) }
+        ensures rows { (rows : List Kept) → KnowsRows rows self.new }
     {
         self.location = location;
         self.state.assign(common);
         self.remembered.forget();
         self.initial.assign(&common.rules);
+        self.rules_of = None;
+    }
+
+    /// The index of a row of the table that has the rules of this one, if such is known.
+    pub(crate) fn rules_of(&self) -> Option<usize>
+        ensures { result ≡ self.now.rules_of }
+    {
+        self.rules_of
+    }
+
+    /// Notes the index of a row of the table that has these rules, where the row has a CFA.
+    pub(crate) fn note_row(&mut self, index: usize)
+        ensures state { (start : ℕ) (run : RowInstructions) → Represents start self.old run →
+            Represents start self.new run }
+        ensures rows { (rows : List Kept) → KnowsRows rows self.old →
+            IfSome self.old.state.cfa (λ _. IsRowWith rows (Some index) self.old.state.rules) →
+            KnowsRows rows self.new }
+    {
+        if self.state.cfa.is_some() {
+            self.rules_of = Some(index);
+        }
     }
 
     /// Whether an instruction leads past the address asked, if one is asked.
@@ -235,18 +267,20 @@ impl<'a> Machine<'a> {
 
     /// Moves to the location that an instruction leads on to.
     pub(crate) fn go_on(&mut self, location: u64)
-        ensures { (start : ℕ) (run : RowInstructions) (i : Instruction) →
+        ensures follows { (start : ℕ) (run : RowInstructions) (i : Instruction) →
             Represents start self.old run →
             location_after (location_after start run.own) (i ∷ []) ≡ location →
             location_after start run.own < location → Represents start self.new (push run i) }
+        ensures rows { (rows : List Kept) → KnowsRows rows self.old → KnowsRows rows self.new }
     {
         self.location = location;
     }
 
     // Raises the location.
     fn advance(&mut self, delta: u128) -> Result<(), Error>
-        ensures { (start : ℕ) (run : RowInstructions) → Represents start self.old run →
+        ensures follows { (start : ℕ) (run : RowInstructions) → Represents start self.old run →
             Follows start run (Advance delta) result self.new }
+        ensures rows { (rows : List Kept) → KnowsRows rows self.old → KnowsRows rows self.new }
     {
         if delta > (u64::MAX - self.location) as u128 {
             return Err(Error::AddressOverflow);
@@ -257,8 +291,9 @@ impl<'a> Machine<'a> {
 
     // Sets the location.
     fn set_location(&mut self, address: u64) -> Result<(), Error>
-        ensures { (start : ℕ) (run : RowInstructions) → Represents start self.old run →
+        ensures follows { (start : ℕ) (run : RowInstructions) → Represents start self.old run →
             Follows start run (SetLocation address) result self.new }
+        ensures rows { (rows : List Kept) → KnowsRows rows self.old → KnowsRows rows self.new }
     {
         if address < self.location {
             return Err(Error::LocationGoesBack);
@@ -267,10 +302,18 @@ impl<'a> Machine<'a> {
         Ok(())
     }
 
-    fn set_rule(&mut self, register: Register, rule: RegisterRule<'a>) -> Result<(), Error>
-        ensures { (start : ℕ) (run : RowInstructions) → Represents start self.old run →
+    /// Gives a register a rule.
+    #[inline(always)]
+    pub(crate) fn set_rule(
+        &mut self,
+        register: Register,
+        rule: RegisterRule<'a>,
+    ) -> Result<(), Error>
+        ensures follows { (start : ℕ) (run : RowInstructions) → Represents start self.old run →
             Follows start run (Write register.0 (rule_meaning rule.entry)) result self.new }
+        ensures rows { (rows : List Kept) → KnowsRows rows self.old → KnowsRows rows self.new }
     {
+        self.rules_of = None;
         self.state.rules.set(register, rule)
     }
 
@@ -281,9 +324,11 @@ impl<'a> Machine<'a> {
     }
 
     fn restore_initial_rule(&mut self, register: Register) -> Result<(), Error>
-        ensures { (start : ℕ) (run : RowInstructions) → Represents start self.old run →
+        ensures follows { (start : ℕ) (run : RowInstructions) → Represents start self.old run →
             Follows start run (Reset register.0) result self.new }
+        ensures rows { (rows : List Kept) → KnowsRows rows self.old → KnowsRows rows self.new }
     {
+        self.rules_of = None;
         match self.initial_rule(register) {
             Some(rule) => self.state.rules.set(register, rule),
             None => {
@@ -294,21 +339,25 @@ impl<'a> Machine<'a> {
     }
 
     fn remember_state(&mut self) -> Result<(), Error>
-        ensures { (start : ℕ) (run : RowInstructions) → Represents start self.old run →
+        ensures follows { (start : ℕ) (run : RowInstructions) → Represents start self.old run →
             Follows start run Remember result self.new }
+        ensures rows { (rows : List Kept) → KnowsRows rows self.old → KnowsRows rows self.new }
     {
         if self.remembered.is_some() {
             return Err(Error::StackFull);
         }
         self.remembered.put(&self.state);
+        self.remembered_rules_of = self.rules_of;
         Ok(())
     }
 
     fn restore_state(&mut self) -> Result<(), Error>
-        ensures { (start : ℕ) (run : RowInstructions) → Represents start self.old run →
+        ensures follows { (start : ℕ) (run : RowInstructions) → Represents start self.old run →
             Follows start run Restore result self.new }
+        ensures rows { (rows : List Kept) → KnowsRows rows self.old → KnowsRows rows self.new }
     {
         if self.remembered.take_into(&mut self.state) {
+            self.rules_of = self.remembered_rules_of;
             Ok(())
         } else {
             Err(Error::PopWithEmptyStack)
@@ -316,17 +365,19 @@ impl<'a> Machine<'a> {
     }
 
     fn set_cfa_register(&mut self, register: Register) -> Result<(), Error>
-        ensures { (start : ℕ) (run : RowInstructions) → Represents start self.old run →
+        ensures follows { (start : ℕ) (run : RowInstructions) → Represents start self.old run →
             Follows start run (CfaColumn register.0) result self.new }
+        ensures rows { (rows : List Kept) → KnowsRows rows self.old → KnowsRows rows self.new }
     {
         let (_, offset) = register_and_offset(self.state.cfa)?;
         self.state.cfa = Some(CfaRule::RegisterAndOffset { register, offset });
         Ok(())
     }
 
-    fn set_cfa_offset(&mut self, offset: u64) -> Result<(), Error>
-        ensures { (start : ℕ) (run : RowInstructions) → Represents start self.old run →
+    pub(crate) fn set_cfa_offset(&mut self, offset: u64) -> Result<(), Error>
+        ensures follows { (start : ℕ) (run : RowInstructions) → Represents start self.old run →
             Follows start run (CfaOffset offset) result self.new }
+        ensures rows { (rows : List Kept) → KnowsRows rows self.old → KnowsRows rows self.new }
     {
         let (register, _) = register_and_offset(self.state.cfa)?;
         self.state.cfa = Some(CfaRule::RegisterAndOffset { register, offset });
@@ -336,8 +387,9 @@ impl<'a> Machine<'a> {
     /// Runs one instruction. After a fault the machine is unspecified.
     #[inline(always)]
     pub(crate) fn run(&mut self, instruction: CallFrameInstruction<'a>) -> Result<(), Error>
-        ensures { (start : ℕ) (run : RowInstructions) → Represents start self.old run →
+        ensures follows { (start : ℕ) (run : RowInstructions) → Represents start self.old run →
             Follows start run (meaning instruction.entry) result self.new }
+        ensures rows { (rows : List Kept) → KnowsRows rows self.old → KnowsRows rows self.new }
     {
         match instruction {
             CallFrameInstruction::Nop => Ok(()),
@@ -382,8 +434,10 @@ impl<'a> Machine<'a> {
 
     /// The row that the programs end with so far, lent.
     pub(crate) fn row(&self) -> Result<RowRef<'_, 'a>, Error>
-        ensures { (start : ℕ) (run : RowInstructions) → Represents start self.now run →
+        ensures last { (start : ℕ) (run : RowInstructions) → Represents start self.now run →
             IsLast run result }
+        ensures same { IfOk result (λ row. row.rules ≡ self.now.state.rules) }
+        ensures some { IfSome self.now.state.cfa (λ _. HasRules result self.now.state.rules) }
     {
         match self.state.cfa {
             Some(cfa) => Ok(RowRef::new(
@@ -405,6 +459,8 @@ impl<'a> Machine<'a> {
             state,
             remembered: _,
             initial: _,
+            rules_of: _,
+            remembered_rules_of: _,
         } = self;
         let RowState {
             cfa,

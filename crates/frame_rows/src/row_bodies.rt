@@ -1,12 +1,13 @@
 //! What the rows of a table say, each kept once where many say the same. DWARF 5 section 6.4.1.
 
 ghost use Rattle.std.specs.Prelude.{◌≡◌, ◌<◌, ◌≤◌, ◌++◌, ◌∷◌, [], IfOk, List, OnErr, OnOk, Result};
-ghost use Rattle.std.specs.Prelude.{ℕ, length, map, slice_index_or, true};
+ghost use Rattle.std.specs.Prelude.{ℕ, Some, length, map, slice_index_or, true};
 ghost use Rattle.unwind_definitions.specs.declared.error.Error.{Error as Fault};
 ghost use Rattle.unwind_definitions.specs.Instructions.{Rule};
 ghost use Rattle.frame_rows.specs.RowValue.{RowValue};
 ghost use Rattle.frame_rows.specs.Rules.{entry_of, rule_meaning, AscendsFrom};
 ghost use Rattle.frame_rows.specs.Bodies.{Grows, IsInRules, Says, body_in, kept_answer};
+ghost use Rattle.frame_rows.specs.SameRules.{HasRulesOf, IsBodyWith};
 
 use crate::row_ref::RowRef;
 use crate::rule::{CfaRule, RegisterRule};
@@ -15,7 +16,8 @@ use std::marker::Model;
 use unwind_arch::Register;
 use unwind_definitions::Error;
 
-// For how many bodies there is a place to be known by: at first, and then.
+// For how many bodies there is a place to be known by: at first, and then. Both are powers of two, so
+// that a number's last digits name a place.
 const FEW: usize = 32;
 
 const MANY: usize = 4096;
@@ -63,8 +65,8 @@ impl KnownBodies {
 
     // Where a body of a number stands that may say what is sought.
     fn get(&self, number: usize) -> Option<usize> {
-        let index = number.checked_rem(self.places.len())?;
-        self.places.get(index)?.checked_sub(1)
+        let highest = self.places.len().checked_sub(1)?;
+        self.places.get(number & highest)?.checked_sub(1)
     }
 
     // Notes the place of a body of a number, at the first free place from that number on. Where more
@@ -84,14 +86,14 @@ impl KnownBodies {
 
     // The first free place from a number on, or that of the number.
     fn free(&self, number: usize) -> usize {
-        let count = self.places.len().max(1);
+        let highest = self.places.len().saturating_sub(1);
         for turn in 0..TURNS {
-            let index = number.wrapping_add(turn) % count;
+            let index = number.wrapping_add(turn) & highest;
             if self.places.get(index) == Some(&0) {
                 return index;
             }
         }
-        number % count
+        number & highest
     }
 }
 
@@ -138,6 +140,8 @@ impl<'a> RowBodies<'a> {
     }
 
     /// Where a body stands. One that isn't found by what it says is added, and known from then on.
+    /// `like` is where one stands that has the same rules, if that is known: these aren't compared
+    /// then, nor stored again.
     #[inline(always)]
     pub(crate) fn keep(
         &mut self,
@@ -145,20 +149,22 @@ impl<'a> RowBodies<'a> {
         cfa: Result<CfaRule<'a>, Error>,
         rules: &[(Register, RegisterRule<'a>)],
         saved_args_size: u64,
+        like: Option<usize>,
     ) -> Result<usize, AllocError>
         requires ascending { AscendsFrom 0 (map entry_of rules.now) }
         requires few { length rules.now ≤ 32 }
+        requires like { IsBodyWith self.old like (map entry_of rules.now) }
         ensures grows { Grows self.old self.new }
         ensures says { IfOk result (λ place. Says self.new place
             (kept_answer cfa.entry (map entry_of rules.now) saved_args_size)) }
     {
         let number = number_of(cfa, rules);
         if let Some(last) = known.get(number) {
-            if self.says(last, cfa, rules, saved_args_size) {
+            if self.says(last, cfa, rules, saved_args_size, like) {
                 return Ok(last);
             }
         }
-        self.keep_other(known, number, cfa, rules, saved_args_size)
+        self.keep_other(known, number, cfa, rules, saved_args_size, like)
     }
 
     // The same where it isn't the first one of its number. Not inlined, as it is for few rows of a
@@ -171,9 +177,11 @@ impl<'a> RowBodies<'a> {
         cfa: Result<CfaRule<'a>, Error>,
         rules: &[(Register, RegisterRule<'a>)],
         saved_args_size: u64,
+        like: Option<usize>,
     ) -> Result<usize, AllocError>
         requires ascending { AscendsFrom 0 (map entry_of rules.now) }
         requires few { length rules.now ≤ 32 }
+        requires like { IsBodyWith self.old like (map entry_of rules.now) }
         ensures grows { Grows self.old self.new }
         ensures says { IfOk result (λ place. Says self.new place
             (kept_answer cfa.entry (map entry_of rules.now) saved_args_size)) }
@@ -182,14 +190,52 @@ impl<'a> RowBodies<'a> {
             let Some(other) = known.get(number.wrapping_add(turn)) else {
                 break;
             };
-            if self.says(other, cfa, rules, saved_args_size) {
+            if self.says(other, cfa, rules, saved_args_size, like) {
                 return Ok(other);
             }
         }
         let place = self.bodies.len();
-        self.add(cfa, rules, saved_args_size)?;
+        let like = self.with_rules(known, rules, like);
+        self.add(cfa, rules, saved_args_size, like)?;
         known.note(number, place)?;
+        if like.is_none() {
+            known.note(number_of_rules(rules), place)?;
+        }
         Ok(place)
+    }
+
+    // Where a body stands that has the same rules, if one is known.
+    fn with_rules(
+        &self,
+        known: &KnownBodies,
+        rules: &[(Register, RegisterRule<'a>)],
+        like: Option<usize>,
+    ) -> Option<usize>
+        requires { IsBodyWith self.now like (map entry_of rules.now) }
+        ensures { IsBodyWith self.now result (map entry_of rules.now) }
+    {
+        if like.is_some() {
+            return like;
+        }
+        let place = known.get(number_of_rules(rules))?;
+        if self.has_rules(place, rules) {
+            Some(place)
+        } else {
+            None
+        }
+    }
+
+    // Whether the body at a place is no fault, and has these rules.
+    fn has_rules(&self, place: usize, rules: &[(Register, RegisterRule<'a>)]) -> bool
+        ensures { result ≡ true → IsBodyWith self.now (Some place) (map entry_of rules.now) }
+    {
+        let Some(body) = self.bodies.get(place) else {
+            return false;
+        };
+        match body.cfa {
+            Ok(_) => are_same_rules(&self.rules[body.first_rule..body.end_rule], rules),
+            Err(_) => false,
+        }
     }
 
     // Whether the body at a place says this.
@@ -200,23 +246,75 @@ impl<'a> RowBodies<'a> {
         cfa: Result<CfaRule<'a>, Error>,
         rules: &[(Register, RegisterRule<'a>)],
         saved_args_size: u64,
+        like: Option<usize>,
     ) -> bool
+        requires { IsBodyWith self.now like (map entry_of rules.now) }
         ensures { result ≡ true → Says self.now place
             (kept_answer cfa.entry (map entry_of rules.now) saved_args_size) }
     {
-        match self.bodies.get(place) {
-            Some(body) => {
-                let own = &self.rules[body.first_rule..body.end_rule];
-                body.saved_args_size == saved_args_size
-                    && is_same_cfa(body.cfa, cfa)
-                    && are_same_rules(own, rules)
-            }
-            None => false,
+        let Some(body) = self.bodies.get(place) else {
+            return false;
+        };
+        if body.saved_args_size != saved_args_size || !is_same_cfa(body.cfa, cfa) {
+            return false;
         }
+        if has_rules_of(&self.bodies, like, body) {
+            return true;
+        }
+        are_same_rules(&self.rules[body.first_rule..body.end_rule], rules)
     }
 
     // Adds a body.
     fn add(
+        &mut self,
+        cfa: Result<CfaRule<'a>, Error>,
+        rules: &[(Register, RegisterRule<'a>)],
+        saved_args_size: u64,
+        like: Option<usize>,
+    ) -> Result<(), AllocError>
+        requires ascending { AscendsFrom 0 (map entry_of rules.now) }
+        requires few { length rules.now ≤ 32 }
+        requires like { IsBodyWith self.old like (map entry_of rules.now) }
+        ensures added { OnOk result (self.new ≡
+            self.old ++ kept_answer cfa.entry (map entry_of rules.now) saved_args_size ∷ []) }
+        ensures same { OnErr result (self.new ≡ self.old) }
+    {
+        match like {
+            Some(place) => self.add_like(cfa, place, saved_args_size),
+            None => self.add_alone(cfa, rules, saved_args_size),
+        }
+    }
+
+    // The same with the rules of the body at a place.
+    fn add_like(
+        &mut self,
+        cfa: Result<CfaRule<'a>, Error>,
+        place: usize,
+        saved_args_size: u64,
+    ) -> Result<(), AllocError>
+        requires { place < length self.old }
+        ensures added { OnOk result ((rules : List (ℕ × Rule)) →
+            IsBodyWith self.old (Some place) rules →
+            self.new ≡ self.old ++ kept_answer cfa.entry rules saved_args_size ∷ []) }
+        ensures same { OnErr result (self.new ≡ self.old) }
+    {
+        let RowBody {
+            cfa: _,
+            saved_args_size: _,
+            first_rule,
+            end_rule,
+        } = self.bodies[place];
+        self.bodies.push(RowBody {
+            cfa,
+            saved_args_size,
+            first_rule,
+            end_rule,
+        })?;
+        Ok(())
+    }
+
+    // The same with rules that are stored.
+    fn add_alone(
         &mut self,
         cfa: Result<CfaRule<'a>, Error>,
         rules: &[(Register, RegisterRule<'a>)],
@@ -241,6 +339,20 @@ impl<'a> RowBodies<'a> {
     }
 }
 
+// Whether a body has its rules where the one at a place has its own.
+#[inline(always)]
+fn has_rules_of(bodies: &[RowBody<'_>], like: Option<usize>, body: &RowBody<'_>) -> bool
+    ensures { result ≡ true → HasRulesOf bodies.now like body.now }
+{
+    let Some(place) = like else {
+        return false;
+    };
+    match bodies.get(place) {
+        Some(other) => other.first_rule == body.first_rule && other.end_rule == body.end_rule,
+        None => false,
+    }
+}
+
 // What a body says, whose rules are among these.
 fn kept_body<'r, 'a>(
     rules: &'r [(Register, RegisterRule<'a>)],
@@ -259,18 +371,33 @@ fn kept_body<'r, 'a>(
     }
 }
 
-// A number by which bodies are told apart, mostly.
+// A number below 4096 by which bodies are told apart, mostly.
+#[inline(always)]
 fn number_of(cfa: Result<CfaRule<'_>, Error>, rules: &[(Register, RegisterRule<'_>)]) -> usize {
-    let offset = match cfa {
-        Ok(CfaRule::RegisterAndOffset { register, offset }) => offset ^ ((register.0 as u64) << 32),
-        _ => 0,
-    };
+    match cfa {
+        Ok(CfaRule::RegisterAndOffset { register, offset }) => {
+            number_with(offset ^ ((register.0 as u64) << 24), rules)
+        }
+        _ => number_of_rules(rules),
+    }
+}
+
+// The same of their rules alone.
+fn number_of_rules(rules: &[(Register, RegisterRule<'_>)]) -> usize {
+    number_with(0, rules)
+}
+
+// The same with a word of the CFA.
+#[inline(always)]
+fn number_with(cfa: u64, rules: &[(Register, RegisterRule<'_>)]) -> usize {
     let first = match rules.first() {
-        Some((register, RegisterRule::Offset(offset))) => offset ^ ((register.0 as u64) << 40),
+        Some((register, RegisterRule::Offset(offset))) => offset ^ ((register.0 as u64) << 8),
         _ => 0,
     };
-    let sum = offset.wrapping_mul(SPREAD) ^ first ^ ((rules.len() as u64) << 48);
-    ((sum ^ (sum >> 32)).wrapping_mul(SPREAD) >> 40) as usize
+    let sum = cfa
+        .wrapping_add(first << 16)
+        .wrapping_add((rules.len() as u64) << 40);
+    (sum.wrapping_mul(SPREAD) >> 52) as usize
 }
 
 // Whether two CFAs are found by the same register and the same offset.
@@ -292,8 +419,9 @@ fn is_same_cfa(a: Result<CfaRule<'_>, Error>, b: Result<CfaRule<'_>, Error>) -> 
     }
 }
 
-// Whether two lists of rules are the same, and none is an expression.
-#[inline(always)]
+// Whether two lists of rules are the same, and none is an expression. Not inlined: it takes all
+// registers.
+#[inline(never)]
 fn are_same_rules(a: &[(Register, RegisterRule<'_>)], b: &[(Register, RegisterRule<'_>)]) -> bool
     ensures { result ≡ true → map entry_of a.now ≡ map entry_of b.now }
 {
@@ -301,23 +429,40 @@ fn are_same_rules(a: &[(Register, RegisterRule<'_>)], b: &[(Register, RegisterRu
         return false;
     }
     for i in 0..a.len() {
-        if a[i].0.0 != b[i].0.0 || !is_same_rule(a[i].1, b[i].1) {
+        if !is_same_entry(&a[i], &b[i]) {
             return false;
         }
     }
     true
 }
 
+// Whether two registers are the same, and have the same rule, which is no expression.
+#[inline(always)]
+fn is_same_entry(a: &(Register, RegisterRule<'_>), b: &(Register, RegisterRule<'_>)) -> bool
+    ensures { result ≡ true → entry_of a.now ≡ entry_of b.now }
+{
+    a.0.0 == b.0.0 && is_same_rule(&a.1, &b.1)
+}
+
 // Whether two rules are the same, and no expression.
-fn is_same_rule(a: RegisterRule<'_>, b: RegisterRule<'_>) -> bool
-    ensures { result ≡ true → rule_meaning a.entry ≡ rule_meaning b.entry }
+#[inline(always)]
+fn is_same_rule(a: &RegisterRule<'_>, b: &RegisterRule<'_>) -> bool
+    ensures { result ≡ true → rule_meaning a.now ≡ rule_meaning b.now }
 {
     // nearly all are offsets
-    if let (RegisterRule::Offset(a), RegisterRule::Offset(b)) = (a, b) {
-        return a == b;
-    }
     match (a, b) {
-        (RegisterRule::ValOffset(a), RegisterRule::ValOffset(b)) => a == b,
+        (RegisterRule::Offset(a), RegisterRule::Offset(b)) => *a == *b,
+        _ => is_same_other_rule(a, b),
+    }
+}
+
+// The same where one of them is no offset.
+#[inline(never)]
+fn is_same_other_rule(a: &RegisterRule<'_>, b: &RegisterRule<'_>) -> bool
+    ensures { result ≡ true → rule_meaning a.now ≡ rule_meaning b.now }
+{
+    match (a, b) {
+        (RegisterRule::ValOffset(a), RegisterRule::ValOffset(b)) => *a == *b,
         (RegisterRule::Register(a), RegisterRule::Register(b)) => a.0 == b.0,
         (RegisterRule::Undefined, RegisterRule::Undefined) => true,
         (RegisterRule::SameValue, RegisterRule::SameValue) => true,

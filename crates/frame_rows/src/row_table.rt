@@ -1,7 +1,7 @@
 //! Tables of the rows that several descriptions have. DWARF 5 section 6.4.1.
 
 ghost use Rattle.std.specs.Prelude.{◌≡◌, ◌+◌, ◌<◌, ◌≤◌, [], length, map, slice_range};
-ghost use Rattle.std.specs.Prelude.{slice_index_or, ℕ, Result};
+ghost use Rattle.std.specs.Prelude.{slice_index_or, ℕ, IfOk, IfSome, Result};
 ghost use Rattle.unwind_definitions.specs.declared.error.Error.{Error as Fault};
 ghost use Rattle.unwind_definitions.specs.Row.{RowInstructions};
 ghost use Rattle.frame_rows.specs.declared.row_table.TableRow.{TableRow};
@@ -12,6 +12,7 @@ ghost use Rattle.frame_rows.specs.Rows.{GivesRow};
 ghost use Rattle.frame_rows.specs.Bodies.{kept_answer};
 ghost use Rattle.frame_rows.specs.TableRows.{HoldsAt, IsLastAt, Pushes};
 ghost use Rattle.frame_rows.specs.Again.{CountsAgain};
+ghost use Rattle.frame_rows.specs.SameRules.{IsBodyOf, IsRowWith};
 
 use crate::known_programs::KnownProgram;
 use crate::row_bodies::{KnownBodies, RowBodies};
@@ -145,15 +146,18 @@ impl<'a> RowTable<'a> {
     }
 
     /// Keeps a row or a fault for a distance from a function's start. `false` where it would be too
-    /// much. `known` is where bodies stand that may say the same.
+    /// much. `known` is where bodies stand that may say the same, and `like` the index of a row that
+    /// has the same rules, if that is known.
     #[inline(always)]
     pub(crate) fn push(
         &mut self,
         known: &mut KnownBodies,
         distance: u64,
         answer: Result<RowRef<'_, 'a>, Error>,
+        like: Option<usize>,
         limits: RowLimits,
     ) -> Result<bool, AllocError>
+        requires { IfOk answer (λ row. IsRowWith self.old.rows like row.rules) }
         ensures pushes { Pushes limits distance answer.entry (answer_rule_count answer.entry)
             self.old result self.new }
         ensures ascends { Ascends answer.entry }
@@ -166,9 +170,10 @@ impl<'a> RowTable<'a> {
                 Ok(row.cfa()),
                 row.entries(),
                 row.saved_args_size(),
+                like,
                 limits,
             ),
-            Err(e) => self.push_entry(known, distance, Err(e), &[], 0, limits),
+            Err(e) => self.push_entry(known, distance, Err(e), &[], 0, None, limits),
         }
     }
 
@@ -206,10 +211,12 @@ impl<'a> RowTable<'a> {
         cfa: Result<CfaRule<'a>, Error>,
         rules: &[(Register, RegisterRule<'a>)],
         saved_args_size: u64,
+        like: Option<usize>,
         limits: RowLimits,
     ) -> Result<bool, AllocError>
         requires ascending { AscendsFrom 0 (map entry_of rules.now) }
         requires few { length rules.now ≤ 32 }
+        requires like { IsRowWith self.old.rows like (map entry_of rules.now) }
         ensures pushes { Pushes limits distance
             (kept_answer cfa.entry (map entry_of rules.now) saved_args_size) (length rules.now)
             self.old result self.new }
@@ -219,11 +226,24 @@ impl<'a> RowTable<'a> {
         if self.row_count >= limits.rows || rule_count > limits.rules as usize {
             return Ok(false);
         }
-        let body = self.bodies.keep(known, cfa, rules, saved_args_size)?;
+        let place = body_of(&self.rows, like);
+        let body = self.bodies.keep(known, cfa, rules, saved_args_size, place)?;
         self.rows.push(TableRow { distance, body })?;
         self.row_count += 1;
         self.rule_count = rule_count as u32;
         Ok(true)
+    }
+}
+
+// Where the body of the row at an index stands.
+#[inline(always)]
+fn body_of(rows: &[TableRow], index: Option<usize>) -> Option<usize>
+    requires { IfSome index (λ i. i < length rows.now) }
+    ensures { IsBodyOf rows.now index result }
+{
+    match index {
+        Some(index) => Some(rows[index].body),
+        None => None,
     }
 }
 

@@ -11,6 +11,7 @@ ghost use Rattle.frame_rows.specs.BegunPrograms.{before_last, last};
 ghost use Rattle.frame_rows.specs.KnownRows.{AreKnown, NotesUnless};
 ghost use Rattle.frame_rows.specs.Running.{IsEndOf, Represents, outcome};
 ghost use Rattle.frame_rows.specs.TableRows.{Keeps};
+ghost use Rattle.frame_rows.specs.SameRules.{KeepsRules, KnowsRows};
 
 use crate::begun::BegunPrograms;
 use crate::coding::Coding;
@@ -120,7 +121,9 @@ impl<'a> RowTableBuilder<'a> {
         self.begun.turn();
     }
 
-    // Runs the program of a common information entry, which those of its descriptions follow.
+    // Runs the program of a common information entry, which those of its descriptions follow. Not
+    // inlined, as it is for few descriptions of a table.
+    #[inline(never)]
     fn begin(&mut self, common: Cursor<'a>, coding: Coding)
         ensures begun { HasBegun self.new (program (coding_in coding.entry) (at common.entry)) }
         ensures before { (before : Program) → HasBegun self.old before →
@@ -152,7 +155,10 @@ impl<'a> RowTableBuilder<'a> {
         ensures limits { self.new.limits ≡ self.old.limits }
     {
         let first = self.table.end();
-        if !self.table.push(&mut self.known, 0, Err(e), self.limits)? {
+        if !self
+            .table
+            .push(&mut self.known, 0, Err(e), None, self.limits)?
+        {
             return Ok(None);
         }
         Ok(Some(RowRange {
@@ -198,7 +204,8 @@ impl<'a> RowTableBuilder<'a> {
         start: u64,
         end: u64,
     ) -> Result<Option<RowRange>, AllocError>
-        requires { start < end }
+        requires some { start < end }
+        requires knows { KnowsRows self.old.table.rows self.old.machine }
         ensures rows { (common : Program) (run : RowInstructions) →
             outcome 0 None (from_common []) common ≡ Ok run →
             Represents start self.old.machine (from_common common.instructions) →
@@ -221,6 +228,7 @@ impl<'a> RowTableBuilder<'a> {
         loop {
             let next = run_stretch(&mut self.machine, &mut instructions, coding);
             let distance = location.saturating_sub(start);
+            let index = self.table.end();
             if !self.keep(distance, next)? {
                 return Ok(None);
             }
@@ -233,6 +241,7 @@ impl<'a> RowTableBuilder<'a> {
                     if next >= end {
                         return Ok(Some(rows));
                     }
+                    self.machine.note_row(index as usize);
                     self.machine.go_on(next);
                     location = next;
                 }
@@ -271,21 +280,26 @@ impl<'a> RowTableBuilder<'a> {
 
     // Keeps what a stretch ends with that begins so far after the start: its row, or its fault.
     fn keep(&mut self, distance: u64, next: Result<Option<u64>, Error>) -> Result<bool, AllocError>
+        requires { KnowsRows self.old.table.rows self.old.machine }
         ensures rows { Keeps self.old.limits distance next self.old.machine self.old.table
             result self.new.table }
         ensures machine { self.new.machine ≡ self.old.machine }
         ensures limits { self.new.limits ≡ self.old.limits }
         ensures begun { self.new.begun ≡ self.old.begun }
         ensures grows { IsLonger self.old.table.rows self.new.table.rows }
+        ensures rules { KeepsRules next result self.old.machine self.old.table.rows
+            self.new.table.rows }
     {
         match next {
             Ok(_) => {
                 let row = self.machine.row();
-                self.table.push(&mut self.known, distance, row, self.limits)
+                let like = self.machine.rules_of();
+                self.table
+                    .push(&mut self.known, distance, row, like, self.limits)
             }
             Err(e) => self
                 .table
-                .push(&mut self.known, distance, Err(e), self.limits),
+                .push(&mut self.known, distance, Err(e), None, self.limits),
         }
     }
 }

@@ -75,7 +75,7 @@ returns-in_err-run c start run rep =
     let p = err_from_is_err_and c.from_residual-in_err-run.result c.from_residual-in_err-run.ensures.1 in
     rw (p.1, p.2) (from_left start c.args.pc run now.0 coding (at c.args.bytes) (at c.loop-turn.input) n _ c.len-turn-end.ensures now.2
     ∙ at_bad start c.args.pc coding now.0 (at c.loop-turn.input) _ _ i (at c.read_instruction.new.input) c.in_err-run.field-0.0 more (sym c.if-is_empty.ensures) c.in_ok-instruction.ensures stop
-    (c.in_err-run.ensures start now.0 now.1))
+    (c.in_err-run.ensures.follows start now.0 now.1))
 
 pub loop-turn-preserved : goal.loop-turn-preserved
 loop-turn-preserved c start run rep =
@@ -85,7 +85,7 @@ loop-turn-preserved c start run rep =
     let more : n - c.loop-turn._turn ≡ suc (n - (c.loop-turn._turn + 1)) = omega arith in
     let i = meaning c.in_ok-instruction.instruction in
     let stop : stops (location start now.0.own) c.args.pc i ≡ false = ap (λ a. stops a c.args.pc i) (sym now.1.here) ∙ sym c.if-stops_before.ensures in
-    let follows = c.in_ok-run.ensures start now.0 now.1 in (
+    let follows = c.in_ok-run.ensures.follows start now.0 now.1 in (
       push now.0 i,
       follows.1,
       sym (at_next start c.args.pc coding now.0 (at c.loop-turn.input) _ _ i (at c.read_instruction.new.input) more (sym c.if-is_empty.ensures) c.in_ok-instruction.ensures stop follows.0)

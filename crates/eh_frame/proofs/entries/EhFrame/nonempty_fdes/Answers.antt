@@ -10,7 +10,7 @@ use Rattle.eh_frame.proofs.EntryParts.{no_body, no_entry, no_more, whole_entry}
 use Rattle.eh_frame.proofs.entries.EhFrame.nonempty_fdes.Goals as goal
 
 pub loop-list-init : goal.loop-list-init
-loop-list-init c = none_read (bases_of c.args.bases.now) (table_of c.args.self.now) c.new-list.result.cies.items c.new-list.result.fdes.items c.new-list.ensures.cies c.new-list.ensures.fdes
+loop-list-init c = none_read (bases_of c.args.bases.now) (table_of c.args.self.now) c.in_ok-list.list.cies.items c.in_ok-list.list.fdes.items c.in_ok-list.ensures.cies c.in_ok-list.ensures.fdes
 
 pub list_entry-requires : goal.list_entry-requires
 list_entry-requires c = c.loop-list.invariant.list.stand

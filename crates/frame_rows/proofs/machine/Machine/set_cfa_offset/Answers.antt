@@ -6,8 +6,8 @@ use Rattle.frame_rows.proofs.Steps.{step_cfa}
 use Rattle.frame_rows.proofs.CannotFollow.{offset_fits}
 use Rattle.frame_rows.proofs.machine.Machine.set_cfa_offset.Goals as goal
 
-pub returns : goal.returns
-returns c start run rep =
+pub returns-clause-follows : goal.returns-clause-follows
+returns-clause-follows c start run rep =
     let q = c.in_ok-register.register.0 in
     let n = c.in_ok-register.field-0-1 in
     let old : cfa_rule run ≡ Some (ColumnAndOffset q n) = sym rep.state.cfa ∙ c.in_ok-register.ensures.ok in (

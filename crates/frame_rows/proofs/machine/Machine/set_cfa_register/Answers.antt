@@ -6,8 +6,8 @@ use Rattle.frame_rows.proofs.Steps.{step_cfa}
 use Rattle.frame_rows.proofs.CannotFollow.{register_fits}
 use Rattle.frame_rows.proofs.machine.Machine.set_cfa_register.Goals as goal
 
-pub returns : goal.returns
-returns c start run rep =
+pub returns-clause-follows : goal.returns-clause-follows
+returns-clause-follows c start run rep =
     let q = c.in_ok-offset.field-0-0.0 in
     let n = c.in_ok-offset.offset in
     let old : cfa_rule run ≡ Some (ColumnAndOffset q n) = sym rep.state.cfa ∙ c.in_ok-offset.ensures.ok in (

@@ -1,8 +1,22 @@
-use Rattle.std.proofs.Common.{map, length, sym, arith}
+use Rattle.std.proofs.Common.{map, length, sym, subst, arith}
 use Rattle.frame_rows.specs.Rules.{entry_of}
 use Rattle.frame_rows.specs.Bodies.{kept_answer}
+use Rattle.frame_rows.specs.KeptRows.{KeptRows}
+use Rattle.frame_rows.specs.SameRules.{IsRowWith}
 use Rattle.frame_rows.proofs.Growing.{one_longer, pushed, still_there, table_still, table_with}
+use Rattle.frame_rows.proofs.SameRows.{body_with, row_within}
 use Rattle.frame_rows.proofs.row_table.RowTable.push_entry.Goals as goal
+
+pub body_of-place-requires : goal.body_of-place-requires
+body_of-place-requires c =
+    let rows = subst (λ (t : KeptRows). IsRowWith t.rows c.args.like (map entry_of c.args.rules.now)) (sym c.self.view_is) c.requires.like in
+    rw c.deref.ensures.value (row_within c.self.inside.bodies c.self.inside.rows.items (map entry_of c.args.rules.now) c.args.like rows)
+
+pub keep-requires-clause-like : goal.keep-requires-clause-like
+keep-requires-clause-like c =
+    let rows = subst (λ (t : KeptRows). IsRowWith t.rows c.args.like (map entry_of c.args.rules.now)) (sym c.self.view_is) c.requires.like in
+    let place = rw c.deref.ensures.value at c.body_of-place.ensures in
+    body_with c.self.inside.bodies c.self.inside.rows.items (map entry_of c.args.rules.now) c.args.like c.body_of-place.result c.self.invariant.bodied rows place
 
 pub returns-in_err-body-clause-grows : goal.returns-in_err-body-clause-grows
 returns-in_err-body-clause-grows c =

@@ -17,6 +17,9 @@ use Rattle.frame_rows.specs.declared.row_table.RowRange.{RowRange}
 use Rattle.frame_rows.proofs.Adding.{IsAdding, begin, kept_too_many, kept_at_end, kept_fault, kept_past, kept_on, kept_whole, ranged}
 use Rattle.frame_rows.proofs.Serving.{is_known, noted_unless, still_known}
 use Rattle.frame_rows.proofs.Parts.{as_long, longer_still}
+use Rattle.frame_rows.proofs.SameRows.{knows_longer}
+use Rattle.frame_rows.specs.SameRules.{IsRowWith, KnowsRows}
+use Rattle.std.specs.Prelude.{IfSome}
 use Rattle.frame_rows.proofs.row_table_builder.RowTableBuilder.add_rows.Goals as goal
 
 -- what was kept at a distance, or not
@@ -32,11 +35,12 @@ loop-rows-init c = (
         from_common common.instructions,
         rep,
         subst (λ (q : Program). IsAdding c.args.start c.args.end common own c.args.self.now.table c.args.start (from_common common.instructions) q c.args.self.now.table) (sym (c.new-instructions.ensures coding))
-            (begin c.args.start c.args.end common own c.args.self.now.table run c.requires ran),
+            (begin c.args.start c.args.end common own c.args.self.now.table run c.requires.some ran),
       ),
   refl,
   as_long c.args.self.now.table.rows,
   λ flag m. subst IsMovable (c.new-instructions.ensures (coding_in c.args.coding)) m,
+  c.requires.knows,
 )
 
 pub returns-then-not-branch-clause-rows : goal.returns-then-not-branch-clause-rows
@@ -62,9 +66,9 @@ loop-rows-preserved c = (
       let some : c.in-Ok-Some.field-0 ≡ Some c.in-Ok-Some.next = rw c.in-Ok-Some.is at c.in-Ok-Some.field-0-is in
       let st = rw (c.in-Ok-Some.is, some) at (c.run_stretch-next.ensures.ends c.args.start now.0 now.1) in
       let kept = rw c.in-Ok-Some.is at (kept_so c.loop-rows.self.limits _ _ c.run_stretch-next.result m c.loop-rows.self.table c.keep.new.self.table _ _ c.saturating_sub-distance.ensures c.if-not-branch.false c.in_ok-keep.ensures.rows) in
-      let there = subst (λ (m : Machine). Represents c.args.start m st.now) (sym c.in_ok-keep.ensures.machine) st.represents in (
+      let there = c.note_row.ensures.state c.args.start st.now (subst (λ (m : Machine). Represents c.args.start m st.now) (sym c.in_ok-keep.ensures.machine) st.represents) in (
         push st.now st.by,
-        c.go_on.ensures c.args.start st.now st.by there st.leads (let stands = st.stands in let ahead = st.ahead in omega arith),
+        c.go_on.ensures.follows c.args.start st.now st.by there st.leads (let stands = st.stands in let ahead = st.ahead in omega arith),
         kept_on c.args.start c.args.end common own c.args.self.now.table run ran c.loop-rows.location now.0 (left_of coding c.loop-rows.instructions) c.loop-rows.self.table now.2 c.loop-rows.self.limits m (left_of coding c.run_stretch-next.new.instructions)
             c.keep.new.self.table c.in-Ok-Some.next st kept c.if-next-end.false,
       ),
@@ -74,6 +78,16 @@ loop-rows-preserved c = (
       let some : c.in-Ok-Some.field-0 ≡ Some c.in-Ok-Some.next = rw c.in-Ok-Some.is at c.in-Ok-Some.field-0-is in
       let moves = (rw (c.in-Ok-Some.is, some) at c.run_stretch-next.ensures.moves) flag in
       c.loop-rows.invariant.4 moves.0 (moves.1 m),
+  let m = c.run_stretch-next.new.machine in
+      let rows = c.keep.new.self.table.rows in
+      let knows = c.run_stretch-next.ensures.rows c.loop-rows.self.table.rows c.loop-rows.invariant.5 in
+      let longer = knows_longer c.loop-rows.self.table.rows rows c.in_ok-keep.ensures.grows m knows in
+      let last = (rw (c.in-Ok-Some.is, c.if-not-branch.false) at c.in_ok-keep.ensures.rules) in
+      let machine = c.in_ok-keep.ensures.machine in
+      c.go_on.ensures.rows rows (c.note_row.ensures.rows rows
+      (subst (KnowsRows rows) (sym machine) longer)
+      (subst (λ (t : Machine). IfSome t.state.cfa (λ _. IsRowWith rows (Some c.end-index.result) t.state.rules)) (sym machine)
+      (subst (λ i. IfSome m.state.cfa (λ _. IsRowWith rows (Some i) m.state.rules)) (sym c.end-index.ensures) last))),
 )
 
 pub returns-then-next-end-clause-rows : goal.returns-then-next-end-clause-rows
@@ -188,3 +202,6 @@ returns-in_err-keep-clause-known c common run ran rep known =
     let begun = c.in_err-keep.ensures.begun ∙ c.loop-rows.invariant.2 in
     let longer = longer_still c.args.self.now.table.rows c.loop-rows.self.table.rows c.keep.new.self.table.rows c.loop-rows.invariant.3 c.in_err-keep.ensures.grows in
     still_known common c.args.self.now c.keep.new.self longer begun known
+
+pub keep-requires : goal.keep-requires
+keep-requires c = c.run_stretch-next.ensures.rows c.loop-rows.self.table.rows c.loop-rows.invariant.5

@@ -6,6 +6,7 @@ use Rattle.frame_rows.specs.InstructionViews.{coding_in}
 use Rattle.frame_rows.specs.KeptRows.{IsLonger}
 use Rattle.frame_rows.specs.Movable.{IsMovable}
 use Rattle.frame_rows.specs.Running.{Represents, outcome}
+use Rattle.frame_rows.specs.SameRules.{KnowsRows}
 use Rattle.frame_rows.specs.Stretches.{left_of}
 use Rattle.frame_rows.proofs.Adding.{IsAdding}
 use Rattle.frame_rows.proofs.row_table_builder.RowTableBuilder.add_rows.Given as goal
@@ -19,6 +20,7 @@ invariant-loop-rows l = (l.self.limits ≡ l.fn.self.limits) × ((common : Progr
     × (l.self.begun ≡ l.fn.self.begun)
     × IsLonger l.fn.self.table.rows l.self.table.rows
     × (l.instructions.sets_location ≡ false → IsMovable (left_of (coding_in l.coding) l.instructions) → IsMovable (program (coding_in l.coding) (at l.own)))
+    × KnowsRows l.self.table.rows l.self.machine
 
 abbrev pub decreases-loop-rows : goal.decreases-loop-rows
 decreases-loop-rows l = l.instructions.left

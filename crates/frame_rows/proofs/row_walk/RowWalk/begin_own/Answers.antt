@@ -8,4 +8,4 @@ returns-in-Some c =
     let coding : Coding = coding_in c.args.coding in
     let common : Program = program coding (at c.args.common) in
     let ended = c.in-Some.ensures in
-    (ended.0, ended.1, c.begin_after.ensures common.instructions ended.2)
+    (ended.0, ended.1, c.begin_after.ensures.state common.instructions ended.2)

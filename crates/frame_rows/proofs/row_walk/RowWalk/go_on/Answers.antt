@@ -13,4 +13,4 @@ returns-in-Some c from end due walking is =
     let both : Some c.in-Some.end ≡ Some end = sym c.in-Some.is ∙ is in
     let same : c.in-Some.end ≡ end = cc in
     let there = location_pushed to.start to.run to.by ∙ to.leads in
-    subst (λ n. IsWalking c.run.new.self coding n due) (there ∙ same) (c.run.ensures to.start (push to.run to.by) due (c.go_on.ensures to.start to.run to.by to.represents to.leads to.stands) to.left)
+    subst (λ n. IsWalking c.run.new.self coding n due) (there ∙ same) (c.run.ensures to.start (push to.run to.by) due (c.go_on.ensures.follows to.start to.run to.by to.represents to.leads to.stands) to.left)
