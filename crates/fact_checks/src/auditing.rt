@@ -135,74 +135,93 @@ fn differences_in<'a>(
     let mut walk = RowWalk::new();
     let mut begun = None;
     for (i, claim) in claims.iter().enumerate() {
-        begun = add_claim(table, index, claim, i, begun, &mut walk, &mut differences)?;
+        add_claim(
+            table,
+            index,
+            claim,
+            i,
+            &mut begun,
+            &mut walk,
+            &mut differences,
+        )?;
     }
     Ok(differences)
 }
 
-// Adds the differences of a claim, and answers how far the rows of its description were gone
+// Adds the differences of a claim, and leaves how far the rows of its description were gone
 // through.
 fn add_claim<'a>(
     table: &NamedTable<'a>,
     index: &Option<Prepared<'a>>,
     claim: &ClaimedFacts,
     place: usize,
-    begun: Option<Begun<'a>>,
+    begun: &mut Option<Begun<'a>>,
     walk: &mut RowWalk<'a>,
     differences: &mut Vec<Difference>,
-) -> Result<Option<Begun<'a>>, AllocError>
+) -> Result<(), AllocError>
     requires index { IsIndexOf (named_of table.now) index.now }
     requires some { claim.now.from < claim.now.to }
-    requires begun { IsBegun (relative_of table.now.bases) walk.old claim.now.from begun }
-    ensures begun { IfOk result (λ last.
-        IsBegun (relative_of table.now.bases) walk.new claim.now.to last) }
-    ensures differences { IfOk result (λ last. (fdes : List Description) →
+    requires begun { IsBegun (relative_of table.now.bases) walk.old claim.now.from begun.old }
+    ensures begun { IfOk result (λ _.
+        IsBegun (relative_of table.now.bases) walk.new claim.now.to begun.new) }
+    ensures differences { IfOk result (λ _. (fdes : List Description) →
         FindsAmong (named_of table.now) fdes → AllPairs DescriptionsApart fdes →
-        IsListed fdes begun.entry →
-        IsListed fdes last × (own : List Found)
+        IsListed fdes begun.old →
+        IsListed fdes begun.new × (own : List Found)
         × (differences.new.items ≡ differences.old.items ++ own)
         × AreDifferencesOf (relative_of table.now.bases) fdes place (claim_of claim.now) own) }
 {
-    let Some(begun) = begun_for(table, index, claim.from, begun, walk) else {
+    begin_for(table, index, claim.from, begun, walk);
+    let Some(begun) = begun else {
         put_whole(differences, claim, place, Mismatch::NoDescription)?;
-        return Ok(None);
+        return Ok(());
     };
     if let Some(mismatch) = refusal(&begun.fde, claim) {
         put_whole(differences, claim, place, mismatch)?;
-        return Ok(Some(begun));
+        return Ok(());
     }
-    let Begun { fde, at } = begun;
-    add_differences(claim, place, &fde, &table.bases, at, walk, differences)?;
-    Ok(Some(Begun { fde, at: claim.to }))
+    add_differences(
+        claim,
+        place,
+        &begun.fde,
+        &table.bases,
+        begun.at,
+        walk,
+        differences,
+    )?;
+    begun.at = claim.to;
+    Ok(())
 }
 
-// The description that contains an address, and the address of whose row a walk has: that which was
-// begun, or another one's first.
-fn begun_for<'a>(
+// Begins the rows of the description that contains an address, where those that are begun aren't
+// its.
+fn begin_for<'a>(
     table: &NamedTable<'a>,
     index: &Option<Prepared<'a>>,
     pc: u64,
-    begun: Option<Begun<'a>>,
+    begun: &mut Option<Begun<'a>>,
     walk: &mut RowWalk<'a>,
-) -> Option<Begun<'a>>
+)
     requires index { IsIndexOf (named_of table.now) index.now }
-    requires begun { IsBegun (relative_of table.now.bases) walk.old pc begun }
-    ensures begun { IsBegun (relative_of table.now.bases) walk.new pc result }
-    ensures covers { IfSome result (λ b. covers_pc (fde_of b.fde) pc ≡ true) }
+    requires begun { IsBegun (relative_of table.now.bases) walk.old pc begun.old }
+    ensures begun { IsBegun (relative_of table.now.bases) walk.new pc begun.new }
+    ensures covers { IfSome begun.new (λ b. covers_pc (fde_of b.fde) pc ≡ true) }
     ensures listed { (fdes : List Description) → FindsAmong (named_of table.now) fdes →
-        IsListed fdes begun.entry → IsListedAt fdes pc result }
+        IsListed fdes begun.old → IsListedAt fdes pc begun.new }
 {
     if let Some(begun) = begun {
         if begun.fde.contains(pc) {
-            return Some(begun);
+            return;
         }
     }
-    let fde = description_at(table, index, pc)?;
-    fde.begin_rows(&table.bases, walk);
-    Some(Begun {
-        fde,
-        at: fde.initial_address(),
-    })
+    *begun = None;
+    if let Some(fde) = description_at(table, index, pc) {
+        fde.begin_rows(&table.bases, walk);
+        *begun = Some(Begun {
+            fde,
+            at: fde.initial_address(),
+        });
+    }
 }
 
 // Why the rows of a description that contains the first address of a claim's range aren't asked.

@@ -19,10 +19,10 @@ loop-i-preserved c =
     let left = order_split claim_of xs i unread c.loop-i-test.true inv.0 inv.1 in (
       this.to,
       left.1,
-      c.in_ok-begun.ensures.begun,
+      c.in_ok-add_claim.ensures.begun,
       λ fdes finds apart.
           let before = inv.3 fdes finds apart in
-          let one = c.in_ok-begun.ensures.differences fdes finds apart before.0 in
+          let one = c.in_ok-add_claim.ensures.differences fdes finds apart before.0 in
           (one.0, subst (AreAudited (bases_of c.args.table.now.bases) fdes 0 (map claim_of (take (i + 1) xs))) (sym one.2) (audited_more (bases_of c.args.table.now.bases) fdes claim_of xs i unread _ one.1 c.loop-i-test.true before.1 one.3)),
     )
 
