@@ -1,3 +1,4 @@
 pub mod Folds
 pub mod KnownSamples
 pub mod KnownSampleRead
+mod PoppedSampleRead

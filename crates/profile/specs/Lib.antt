@@ -2,3 +2,4 @@ pub mod Lines
 pub mod Due
 pub mod Sample
 pub mod KnownSample
+pub mod PoppedSample

@@ -5,9 +5,11 @@ ghost use Rattle.perf_data.specs.Sample.{one_sample};
 ghost use Rattle.folded_stacks.specs.Counts.{IsFolded, counts_of};
 ghost use Rattle.sampled_profile.specs.KnownSamples.{BeginsKnownStack, HasSample, known_text};
 ghost use Rattle.sampled_profile.specs.Profiles.{stacks_of};
+ghost use Rattle.sampled_profile.specs.Scripts.{script_text};
 ghost use Rattle.profile.specs.declared.request.Form.TheVariants.{Folded, Script};
 ghost use Rattle.profile.specs.Due.{Asks};
 ghost use Rattle.profile.specs.KnownSample as known;
+ghost use Rattle.profile.specs.PoppedSample as popped;
 ghost use Rattle.profile.specs.Sample.{file, records, walked};
 
 /// A perf.data file of 440 bytes, whose one sample was taken in a function that pushes RBX, is asked
@@ -36,4 +38,18 @@ pub fn a_known_stack_is_asked_for()
     ensures text { (is : BeginsKnownStack walked.space walked.limit known.sample_value
         pushing.start (pushing.caller ∷ [])) → known_text walked known.earlier known.sample_value
         pushing.start (pushing.caller ∷ []) is ≡ codes "ab;a.out+0x1006" }
+{}
+
+/// A perf.data file of 344 bytes is asked for with the tables of a function that pushes RBX, at
+/// whose return, after the pop, its one sample was taken. RBX's slot isn't in the copy of the stack,
+/// which begins at the stack pointer; its word is kept, and these are the stack's text and its lines.
+pub fn a_popped_stack_is_asked_for()
+    ensures asked { Asks Folded (codes "tables.json" ∷ []) popped.file popped.bytes popped.walked
+        popped.records }
+    ensures asked_script { Asks Script (codes "--script" ∷ codes "tables.json" ∷ []) popped.file
+        popped.bytes popped.walked popped.records }
+    ensures stacks { stacks_of popped.walked popped.records ≡
+        codes "ab;a.out+0x1006;a.out+0x100f;[popped]" ∷ [] }
+    ensures script { script_text popped.walked popped.records ≡
+        codes "ab 7/8 0.000000009: 1 samples:\n\t0x0 [popped] ([unknown])\n\t0x40100f a.out+0x100f (a.out)\n\t0x401005 a.out+0x1005 (a.out)\n\n" }
 {}

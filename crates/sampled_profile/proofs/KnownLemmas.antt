@@ -1,5 +1,5 @@
 -- What is told of a sample whose stack is known.
-use Rattle.std.proofs.Common.{◌≡◌, ◌≢◌, ◌+◌, ◌≤◌, ℕ, true, List, [], ◌∷◌, ◌++◌, Option, Some, None, Result, Ok, Err, refl, sym, ap, subst, ◌∙◌, append_assoc, append-nil, arith}
+use Rattle.std.proofs.Common.{◌≡◌, ◌≤◌, ℕ, true, false, List, [], ◌∷◌, ◌++◌, Option, Some, None, Result, Ok, refl, sym, ap, subst, ◌∙◌, append_assoc, append-nil, arith}
 use Rattle.std.specs.Prelude.{map, slice_index}
 use Rattle.std.specs.List.{count_by}
 use Rattle.memory_image.specs.declared.errors.ImageError.{ImageError}
@@ -11,23 +11,26 @@ use Rattle.unwind_arch.specs.declared.x86_64.Context.{Context}
 use Rattle.perf_data.specs.declared.errors.PerfError.{PerfError}
 use Rattle.perf_data.specs.Records.{RecordValue, Sampled, Mapped, Named, Forked, Exited, OtherKind}
 use Rattle.perf_data.specs.Samples.{SampleValue}
+use Rattle.stack_steps.specs.Growing.{over_image}
 use Rattle.stack_steps.specs.Modules.{SpaceValue, AreApart}
-use Rattle.stack_walks.specs.KnownWalks.{StartsKnownStack, end_reason_of_stack}
+use Rattle.stack_walks.specs.KnownWalks.{end_reason_of_stack}
 use Rattle.stack_walks.specs.WalkEnds.{start_state, contexts_to_end}
 use Rattle.stack_walks.specs.Walking.{EachShows}
 use Rattle.stack_walks.proofs.EndAnswers.{line_whole}
 use Rattle.stack_walks.proofs.KnownLines.{known_comes, known_walked}
+use Rattle.popped_registers.specs.PoppedRegisters.{are_some, image_unless, image_with, kept_over}
+use Rattle.popped_registers.proofs.KeptLemmas.{whole_popped}
 use Rattle.folded_stacks.specs.Counts.{StackCount, HasStack, IsFolded}
 use Rattle.folded_stacks.specs.Stacks.{is_same}
 use Rattle.folded_stacks.proofs.Counting.{counts_cons, one_if}
 use Rattle.folded_stacks.proofs.Orders.{is_same_by}
-use Rattle.sampled_profile.specs.Ends.{StackWalk, returns_of}
+use Rattle.sampled_profile.specs.Ends.{returns_of}
 use Rattle.sampled_profile.specs.KnownSamples.{BeginsKnownStack, HasSample, known_lines, known_text, known_walk}
 use Rattle.sampled_profile.specs.Names.{name_of}
 use Rattle.sampled_profile.specs.Profiles.{Tables, read_all, stacks_of}
 use Rattle.sampled_profile.specs.Scripts.{sample_lines, script_text}
 use Rattle.sampled_profile.specs.Texts.{stack_text}
-use Rattle.sampled_profile.specs.Walks.{end_of, end_told, image_unless, image_with, sample_space, walk_by, walk_of}
+use Rattle.sampled_profile.specs.Walks.{end_of, end_told, sample_space, walk_by, walk_from, walk_of, walk_over}
 use Rattle.sampled_profile.proofs.EndLemmas.{comes_told}
 
 -- ---- where it is walked
@@ -57,10 +60,12 @@ module _ (space : SpaceValue) (limit : ℕ) (apart : AreApart 0 space.modules) (
       let laid_there : IsLaidOut 0 over_copy.image = with_laid_out space.image (slice_index is.start.registers column.rsp) sample.stack laid in
       let w = known_walked over_copy apart laid_there is.start limit true s callers is.known in
       let all : contexts_to_end over_copy limit is.start true ≡ w.0 = line_whole over_copy limit (start_state is.start true) w.0 w.1 in
+      let kept : walk_from over_copy limit is.start ≡ walk_over over_copy limit is.start false =
+      ap (λ ps. walk_over (over_image over_copy (kept_over over_copy.image ps)) limit is.start (are_some ps)) (whole_popped over_copy limit is.start w.0 w.1) in
       let returns : returns_of (contexts_to_end over_copy limit is.start true) ≡ map (λ (state : State). state.ra) (s ∷ callers) = ap returns_of all ∙ returns_shown w.0 (s ∷ callers) w.2.each in
       let why = end_reason_of_stack over_copy true s callers is.known.stack in
       let end : end_of over_copy limit is.start true ≡ end_told why = comes_told over_copy why limit is.start true (known_comes over_copy apart laid_there is.start limit true s callers is.known) in
-      ap (walk_by space limit sample.stack) is.told ∙ (λ i. record { returns = returns i; end = end i })
+      ap (walk_by space limit sample.stack) is.told ∙ (kept ∙ (λ i. record { returns = returns i; end = end i; popped = false }))
 
 -- ---- its place among the samples of a file
 

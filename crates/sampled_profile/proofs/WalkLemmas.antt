@@ -5,13 +5,15 @@ use Rattle.format_frames.specs.declared.machine.Stepped.{Stepped}
 use Rattle.perf_data.specs.Samples.{SampleValue}
 use Rattle.stack_steps.specs.declared.error.DeliverError.{DeliverError}
 use Rattle.stack_steps.specs.Modules.{Added, SpaceValue}
-use Rattle.stack_steps.specs.Stepping.{step_of}
+use Rattle.stack_steps.specs.Growing.{over_image}
+use Rattle.stack_steps.specs.Stepping.{frame_of, step_of}
 use Rattle.stack_walks.specs.WalkEnds.{caller_in, caller_from, start_state, contexts_to_end}
 use Rattle.stack_walks.proofs.Reaching.{same_reached}
 use Rattle.delivery_laws.proofs.SameAnswers.{step_same}
+use Rattle.popped_registers.specs.PoppedRegisters.{are_some, is_popped, kept_over, kept_space, popped_in}
 use Rattle.sampled_profile.specs.declared.stack_end.StackEnd.{StackEnd}
 use Rattle.sampled_profile.specs.Ends.{returns_of}
-use Rattle.sampled_profile.specs.Walks.{end_after, end_of, sample_space, start_of, walk_by, walk_from, walk_of}
+use Rattle.sampled_profile.specs.Walks.{end_after, end_of, sample_space, start_of, walk_by, walk_from, walk_of, walk_over}
 
 module _ (s : SpaceValue) (added : List Added) where
   abbrev pub other : SpaceValue
@@ -29,12 +31,22 @@ module _ (s : SpaceValue) (added : List Added) where
       go (Ok None) outer = refl
       go (Ok (Some t)) outer = outer t.context t.signal
 
-  from_same : (limit : ℕ) (c : Context) → walk_from other limit c ≡ walk_from s limit c
-  from_same limit c = let states = front_same limit c in let last = end_same limit c true in λ i. record { returns = returns_of (states i); end = last i }
+  over_same : (limit : ℕ) (c : Context) (popped : Bool) → walk_over other limit c popped ≡ walk_over s limit c popped
+  over_same limit c popped = let states = front_same limit c in let last = end_same limit c true in λ i. record { returns = returns_of (states i); end = last i; popped = popped }
+
+  popped_same : (limit : ℕ) (c : Context) → popped_in other limit c ≡ popped_in s limit c
+  unfolding popped_in step_of frame_of
+  popped_same zero c = refl
+  popped_same (suc room) c = refl
 
 module _ (s : SpaceValue) (added : List Added) (limit : ℕ) where
+  from_same : (s : SpaceValue) (c : Context) → walk_from (other s added) limit c ≡ walk_from s limit c
+  from_same s c =
+      ap (λ ps. walk_over (over_image (other s added) (kept_over s.image ps)) limit c (are_some ps)) (popped_same s added limit c)
+      ∙ over_same (kept_space s limit c) added limit c (is_popped s limit c)
+
   by_same : (stack : List ℕ) (start : Result Context StackEnd) → walk_by (other s added) limit stack start ≡ walk_by s limit stack start
-  by_same stack (Ok c) = from_same (sample_space s c stack) added limit c
+  by_same stack (Ok c) = from_same (sample_space s c stack) c
   by_same stack (Err end) = refl
 
   pub walk_same : (sample : SampleValue) → walk_of (other s added) limit sample ≡ walk_of s limit sample

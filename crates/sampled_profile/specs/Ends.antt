@@ -1,5 +1,5 @@
 -- What is told of a stack, and the words for why there is no more.
-use Rattle.std.specs.Prelude.{ℕ, List, map, Option, Some, None, codes}
+use Rattle.std.specs.Prelude.{ℕ, Bool, true, false, List, map, Option, Some, None, codes}
 use Rattle.unwind_arch.specs.declared.x86_64.Context.{Context}
 use Rattle.sampled_profile.specs.declared.stack_end.StackEnd.{StackEnd}
 use Rattle.sampled_profile.specs.declared.stack_end.StackEnd.TheVariants.{Outermost, NoTable, Cut, Refused, Limit, NoRegisters, Narrow}
@@ -14,11 +14,17 @@ end_word Limit = Some (codes "[limit]")
 end_word NoRegisters = Some (codes "[no registers]")
 end_word Narrow = Some (codes "[32 bits]")
 
--- the return addresses of a stack's frames, the innermost first, whose own is that at which the thread was interrupted; and why it is
--- told no further
+-- the word that says of a stack that registers were kept which were popped where the thread was interrupted
+abbrev pub popped_word : Bool → Option (List ℕ)
+popped_word false = None
+popped_word true = Some (codes "[popped]")
+
+-- the return addresses of a stack's frames, the innermost first, whose own is that at which the thread was interrupted; why it is told
+-- no further; and whether popped registers were kept
 pub record StackWalk : Type 0 where
   pub returns : List ℕ
   pub end : StackEnd
+  pub popped : Bool
 
 -- the return addresses of states
 abbrev pub returns_of : List Context → List ℕ

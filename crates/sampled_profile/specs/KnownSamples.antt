@@ -1,6 +1,6 @@
 -- What is told of a sample whose thread's stack is known: of each of its frames it is known how the caller's state follows, in an ELF
 -- module by facts that its tables say, at any address, and through a signal's frame to the state that was interrupted.
-use Rattle.std.specs.Prelude.{◌≡◌, ℕ, true, List, ◌∷◌, ◌++◌, map, Option, Result, Ok}
+use Rattle.std.specs.Prelude.{◌≡◌, ℕ, true, false, List, ◌∷◌, ◌++◌, map, Ok}
 use Rattle.unwind_definitions.specs.State.{State}
 use Rattle.unwind_arch.specs.declared.x86_64.Context.{Context}
 use Rattle.perf_data.specs.Records.{RecordValue, Sampled}
@@ -20,11 +20,12 @@ pub record BeginsKnownStack (space : SpaceValue) (limit : ℕ) (sample : SampleV
   pub told : start_of sample.registers ≡ Ok start
   pub known : StartsKnownStack (sample_space space start sample.stack) start limit true s callers
 
--- its states' return addresses, the innermost first, and the end that its outermost state has
+-- its states' return addresses, the innermost first, and the end that its outermost state has; no popped register is kept for them
 abbrev pub known_walk : (space : SpaceValue) (limit : ℕ) (sample : SampleValue) (s : State) (callers : List State) → BeginsKnownStack space limit sample s callers → StackWalk
 known_walk space limit sample s callers is = record {
   returns = map (λ (state : State). state.ra) (s ∷ callers);
   end = end_told (end_reason_of_stack (sample_space space is.start sample.stack) true s callers is.known.stack);
+  popped = false;
 }
 
 -- one of these records, the latest first, is a sample, and these come before it

@@ -1,6 +1,6 @@
 -- Samples one after another, in the text form of `perf script`, which collapsers and viewers of profiles read: a line with the name of the
--- thread, its process and its own number, and when the sample was taken; a line for each frame, the innermost first, and one that says
--- why the stack is told no further; and an empty line.
+-- thread, its process and its own number, and when the sample was taken; a line that says that popped
+-- registers were kept; a line for each frame, the innermost first; one that says why the stack is told no further; and an empty line.
 use Rattle.std.specs.Prelude.{ℕ, zero, suc, ◌/◌, ◌%◌, ◌^◌, ◌==◌, Bool, true, false, List, [], ◌∷◌, ◌++◌, Option, Some, None, Result, codes, if◌then◌else◌}
 use Rattle.std.specs.Fmt.{decimal, digit_glyph}
 use Rattle.memory_image.specs.Results.{result_map}
@@ -15,7 +15,7 @@ use Rattle.stack_report.specs.Report.{line}
 use Rattle.sampled_profile.specs.Names.{name_of}
 use Rattle.sampled_profile.specs.Profiles.{Tables, read_all}
 use Rattle.sampled_profile.specs.Texts.{place_text, root_text, written_name}
-use Rattle.sampled_profile.specs.Ends.{StackWalk, end_word}
+use Rattle.sampled_profile.specs.Ends.{StackWalk, end_word, popped_word}
 use Rattle.sampled_profile.specs.Walks.{walk_of}
 
 -- ---- the first line
@@ -61,21 +61,21 @@ abbrev pub frame_lines : List OriginValue → Bool → List ℕ → List ℕ
 frame_lines origins interrupted [] = []
 frame_lines origins interrupted (a ∷ returns) = frame_line origins interrupted a ++ frame_lines origins false returns
 
--- ---- why there are no more
+-- ---- what is told beside the frames
 
 -- a word in a frame's place, at the address 0
 abbrev pub word_line : List ℕ → List ℕ
 word_line word = line (codes "\t0x0 " ++ word ++ codes " ([unknown])")
 
-abbrev pub end_line : Option (List ℕ) → List ℕ
-end_line None = []
-end_line (Some word) = word_line word
+abbrev pub mark_line : Option (List ℕ) → List ℕ
+mark_line None = []
+mark_line (Some word) = word_line word
 
 -- ---- all of it
 
 -- a sample of a thread of this name, by its walk
 unfoldable pub sample_lines : List OriginValue → Option (List ℕ) → SampleValue → StackWalk → List ℕ
-sample_lines origins name s w = head_line name s ++ (frame_lines origins true w.returns ++ end_line (end_word w.end)) ++ 10 ∷ []
+sample_lines origins name s w = head_line name s ++ (mark_line (popped_word w.popped) ++ (frame_lines origins true w.returns ++ mark_line (end_word w.end))) ++ 10 ∷ []
 
 -- the lines so far with those of a record, where it is a sample, whose thread is named by the records before it
 abbrev pub with_lines : Tables → RecordValue → List RecordValue → List ℕ → List ℕ

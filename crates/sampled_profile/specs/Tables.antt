@@ -15,7 +15,7 @@ abbrev pub shown_name : SampledStack → Option (List ℕ)
 shown_name stack = option_map (λ name. name.now) stack.name
 
 abbrev pub shown_walk : SampledStack → StackWalk
-shown_walk stack = record { returns = stack.returns.items; end = stack.end }
+shown_walk stack = record { returns = stack.returns.items; end = stack.end; popped = stack.popped }
 
 -- its text
 abbrev pub shown_text : List OriginValue → SampledStack → List ℕ

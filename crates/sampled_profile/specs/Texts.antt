@@ -1,10 +1,10 @@
--- The text of a stack as collapsers of profiles write it: the name of the thread, why the stack is told no further, and its frames,
--- the outermost first, with a semicolon before each part but the first.
+-- The text of a stack as collapsers of profiles write it: the name of the thread, why the stack is told no further, its frames, the
+-- outermost first, and whether popped registers were kept, with a semicolon before each part but the first.
 use Rattle.std.specs.Prelude.{ℕ, ◌+◌, ◌-◌, ◌%◌, ◌^◌, ◌==◌, ◌||◌, Bool, true, false, List, [], ◌∷◌, ◌++◌, map, Option, Some, None, codes, nat_le, if◌then◌else◌}
 use Rattle.unwind_definitions.specs.LanguageSearch.{address_of_call}
 use Rattle.stack_snapshot.specs.Origins.{OriginValue, origin_at, file_name}
 use Rattle.stack_report.specs.Digits.{hexadecimal}
-use Rattle.sampled_profile.specs.Ends.{StackWalk, end_word}
+use Rattle.sampled_profile.specs.Ends.{StackWalk, end_word, popped_word}
 
 -- ---- names
 
@@ -47,4 +47,4 @@ word_text (Some word) = codes ";" ++ word
 
 -- the stack of a thread of this name
 unfoldable pub stack_text : List OriginValue → Option (List ℕ) → StackWalk → List ℕ
-stack_text origins name w = root_text name ++ (word_text (end_word w.end) ++ frames_text origins true w.returns)
+stack_text origins name w = root_text name ++ (word_text (end_word w.end) ++ (frames_text origins true w.returns ++ word_text (popped_word w.popped)))

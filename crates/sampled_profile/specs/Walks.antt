@@ -1,7 +1,6 @@
--- The walk of a sample: over the tables and the copy of its stack, from the registers of its thread.
-use Rattle.std.specs.Prelude.{ℕ, zero, suc, ◌==◌, Bool, true, List, [], Option, Some, None, Result, Ok, Err, slice_index, if◌then◌else◌}
-use Rattle.memory_image.specs.declared.errors.ImageError.{ImageError}
-use Rattle.memory_image.specs.Image.{Span, refusal, with_span}
+-- The walk of a sample: over the tables and the copy of its stack, from the registers of its thread. Where that is cut at its first frame,
+-- over the slots of the registers that were popped there, too.
+use Rattle.std.specs.Prelude.{ℕ, zero, suc, ◌==◌, Bool, true, false, List, [], Option, Some, None, Result, Ok, Err, slice_index, if◌then◌else◌}
 use Rattle.unwind_definitions.specs.Columns as column
 use Rattle.unwind_arch.specs.declared.x86_64.Context.{Context}
 use Rattle.format_frames.specs.declared.machine.Stepped.{Stepped}
@@ -15,19 +14,13 @@ use Rattle.stack_steps.specs.Stepping.{step_of}
 use Rattle.stack_walks.specs.declared.walk_end.EndReason.{EndReason}
 use Rattle.stack_walks.specs.declared.walk_end.EndReason.TheVariants as reason
 use Rattle.stack_walks.specs.WalkEnds.{contexts_to_end}
+use Rattle.popped_registers.specs.PoppedRegisters.{image_with, is_popped, kept_space}
 use Rattle.sampled_profile.specs.declared.stack_end.StackEnd.{StackEnd}
 use Rattle.sampled_profile.specs.declared.stack_end.StackEnd.TheVariants.{Outermost, NoTable, Cut, Refused, Limit, NoRegisters, Narrow}
+use Rattle.sampled_profile.specs.declared.walks.WalkMarks.{WalkMarks}
 use Rattle.sampled_profile.specs.Ends.{StackWalk, returns_of}
 
 -- ---- where it walks
-
--- an image with one region more, where it is taken
-abbrev pub image_unless : Option ImageError → List Span → List Span → List Span
-image_unless None grown image = grown
-image_unless (Some e) grown image = image
-
-abbrev pub image_with : List Span → ℕ → List ℕ → List Span
-image_with image a bytes = image_unless (refusal image a bytes) (with_span (record { start = a; bytes = bytes }) image) image
 
 -- the modules over their memory and a copy of a stack from its stack pointer on
 abbrev pub sample_space : SpaceValue → Context → List ℕ → SpaceValue
@@ -61,9 +54,17 @@ end_told _ = NoTable
 
 -- ---- what is told of it
 
+-- states with what is told beside them
+abbrev pub marked_walk : List Context → WalkMarks → StackWalk
+marked_walk states marks = record { returns = returns_of states; end = marks.end; popped = marks.popped }
+
 -- over a space from a context that was interrupted
+abbrev pub walk_over : SpaceValue → ℕ → Context → Bool → StackWalk
+walk_over space limit c popped = record { returns = returns_of (contexts_to_end space limit c true); end = end_of space limit c true; popped = popped }
+
+-- over the memory that keeps the registers that were popped there, marked where there are any
 abbrev pub walk_from : SpaceValue → ℕ → Context → StackWalk
-walk_from space limit c = record { returns = returns_of (contexts_to_end space limit c true); end = end_of space limit c true }
+walk_from space limit c = walk_over (kept_space space limit c) limit c (is_popped space limit c)
 
 -- where a thread was interrupted, by its registers, of which the form 2 is that of a program of 64 bits; or why that isn't known
 abbrev pub start_of : Option RegisterWords → Result Context StackEnd
@@ -72,7 +73,7 @@ start_of (Some r) = if r.abi == 2 then Ok (context_of r) else Err Narrow
 
 abbrev pub walk_by : SpaceValue → ℕ → List ℕ → Result Context StackEnd → StackWalk
 walk_by space limit stack (Ok c) = walk_from (sample_space space c stack) limit c
-walk_by space limit stack (Err end) = record { returns = []; end = end }
+walk_by space limit stack (Err end) = record { returns = []; end = end; popped = false }
 
 -- of a sample
 abbrev pub walk_of : SpaceValue → ℕ → SampleValue → StackWalk

@@ -1,10 +1,10 @@
 // The texts of callers' frames by their addresses, so that most are written once.
-ghost use Rattle.std.specs.Prelude.{◌≡◌, ◌++◌, IfOk, OnOk, false};
+ghost use Rattle.std.specs.Prelude.{◌≡◌, ◌++◌, IfOk, OnOk, false, true};
 ghost use Rattle.sampled_profile.specs.Tables.{shown_text};
 ghost use Rattle.sampled_profile.specs.Texts.{frame_text, frames_text};
 
 use crate::stack_table::SampledStack;
-use crate::texts::{put_end, put_frame, put_root};
+use crate::texts::{put_end, put_frame, put_popped, put_root};
 use stack_report::Report;
 use stack_snapshot::Origins;
 use std::alloc::{AllocError, Global};
@@ -130,6 +130,22 @@ impl<'o> FrameTexts<'o> {
         Ok(())
     }
 
+    /// Puts the texts of frames last, the outermost first. At the innermost one the thread was
+    /// interrupted.
+    fn put_frames(&mut self, report: &mut Report, returns: &[u64]) -> Result<(), AllocError>
+        ensures text { OnOk result
+            (report.new ≡ report.old ++ frames_text self.old true returns.now) }
+        ensures files { self.new ≡ self.old }
+    {
+        match returns {
+            [innermost, callers @ ..] => {
+                self.put_callers(report, callers)?;
+                put_frame(report, self.origins, true, *innermost)
+            }
+            [] => Ok(()),
+        }
+    }
+
     /// Puts the text of a stack last.
     ///
     /// # Errors
@@ -147,12 +163,7 @@ impl<'o> FrameTexts<'o> {
     {
         put_root(report, stack.name())?;
         put_end(report, stack.end())?;
-        match stack.returns() {
-            [innermost, callers @ ..] => {
-                self.put_callers(report, callers)?;
-                put_frame(report, self.origins, true, *innermost)
-            }
-            [] => Ok(()),
-        }
+        self.put_frames(report, stack.returns())?;
+        put_popped(report, stack.popped())
     }
 }

@@ -2,13 +2,13 @@
 ghost use Rattle.std.specs.Prelude.{◌≡◌, ◌≤◌, ◌==◌, ◌++◌, ◌∷◌, OnOk, [], true, take};
 ghost use Rattle.std.specs.Option.{option_map};
 ghost use Rattle.perf_data.specs.Views.{sample_value};
-ghost use Rattle.sampled_profile.specs.Ends.{end_word, returns_of};
-ghost use Rattle.sampled_profile.specs.Scripts.{decimals, end_line, frame_line, frame_lines};
+ghost use Rattle.sampled_profile.specs.Ends.{end_word, popped_word, returns_of};
+ghost use Rattle.sampled_profile.specs.Scripts.{decimals, frame_line, frame_lines, mark_line};
 ghost use Rattle.sampled_profile.specs.Scripts.{head_line, place_line, placed_text, sample_lines};
 ghost use Rattle.sampled_profile.specs.Scripts.{seconds_text, thread_text, time_text, word_line};
 ghost use Rattle.sampled_profile.specs.Walks.{walk_of};
 
-use crate::stack_end::StackEnd;
+use crate::stack_end::popped_word;
 use crate::texts::{address_inside, put_name, put_place, put_root};
 use crate::walks::walk_sample;
 use perf_data::{Sample, Thread};
@@ -138,11 +138,12 @@ fn put_word_line(report: &mut Report, word: &str) -> Result<(), AllocError>
     report.end_line()
 }
 
-/// Puts last why a stack is told no further.
-fn put_end_line(report: &mut Report, end: StackEnd) -> Result<(), AllocError>
-    ensures { OnOk result (report.new ≡ report.old ++ end_line (end_word end)) }
+/// Puts a word in a frame's place last, where there is one.
+fn put_mark_line(report: &mut Report, word: Option<&'static str>) -> Result<(), AllocError>
+    ensures { OnOk result (report.new ≡ report.old ++
+        mark_line (option_map (λ w. w.now) word.entry)) }
 {
-    match end.word() {
+    match word {
         Some(word) => put_word_line(report, word),
         None => Ok(()),
     }
@@ -170,8 +171,9 @@ pub(crate) fn put_sample_lines(
     ensures places { room.new.limit ≡ room.old.limit }
 {
     put_head(report, name, sample)?;
-    let end = walk_sample(space, limit, sample, room);
+    let marks = walk_sample(space, limit, sample, room);
+    put_mark_line(report, popped_word(marks.popped))?;
     put_frame_lines(report, origins, room)?;
-    put_end_line(report, end)?;
+    put_mark_line(report, marks.end.word())?;
     report.end_line()
 }

@@ -124,8 +124,8 @@ fn count_sample(
     ensures places { tally.new.room.limit ≡ tally.old.room.limit }
 {
     let name = name_of(&tally.names, sample);
-    let end = walk_sample(space, limit, sample, &mut tally.room);
-    tally.last.set(name, end, &tally.room)?;
+    let marks = walk_sample(space, limit, sample, &mut tally.room);
+    tally.last.set(name, marks, &tally.room)?;
     tally.stacks.count(&tally.last)
 }
 

@@ -1,7 +1,7 @@
-// Why a stack is told no further.
+// Why a stack is told no further, and the words for what is told beside its frames.
 ghost use Rattle.std.specs.Prelude.{◌≡◌};
 ghost use Rattle.std.specs.Option.{option_map};
-ghost use Rattle.sampled_profile.specs.Ends.{end_word};
+ghost use Rattle.sampled_profile.specs.Ends.{end_word, popped_word};
 
 /// Why a stack is told no further, or why none is told.
 #[derive(Clone, Copy, Debug, PartialEq, Eq, Hash)]
@@ -37,4 +37,11 @@ impl StackEnd {
             StackEnd::Narrow => Some("[32 bits]"),
         }
     }
+}
+
+/// The word that says that registers of a stack were kept which were popped.
+pub(crate) fn popped_word(popped: bool) -> Option<&'static str>
+    ensures { option_map (λ word. word.now) result ≡ popped_word popped }
+{
+    if popped { Some("[popped]") } else { None }
 }

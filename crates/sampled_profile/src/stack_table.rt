@@ -3,18 +3,21 @@ ghost use Rattle.std.specs.Prelude.{◌≡◌, ◌+◌, ◌<◌, ◌^◌, [], If
 ghost use Rattle.std.specs.Option.{option_map};
 ghost use Rattle.sampled_profile.specs.Tables.{CountsOneMore, shown_name, shown_walk, total_of};
 ghost use Rattle.sampled_profile.specs.Ends.{returns_of};
+ghost use Rattle.sampled_profile.specs.Walks.{marked_walk};
 
 use crate::stack_end::StackEnd;
+use crate::walks::WalkMarks;
 use stack_deliver::Room;
 use std::alloc::{AllocError, Global};
 use std::collections::HashMap;
 
 /// The stack of a sample: the name of its thread, the return addresses of its frames, the innermost
-/// first, and why there are no more.
+/// first, why there are no more, and whether popped registers were kept.
 #[derive(PartialEq, Eq, Hash, Drop)]
 pub(crate) struct SampledStack<'a> {
     name: Option<&'a [u8]>,
     end: StackEnd,
+    popped: bool,
     returns: Vec<u64>,
 }
 
@@ -24,6 +27,7 @@ impl<'a> SampledStack<'a> {
         SampledStack {
             name: None,
             end: StackEnd::Outermost,
+            popped: false,
             returns: Vec::new(alloc),
         }
     }
@@ -42,6 +46,13 @@ impl<'a> SampledStack<'a> {
         self.end
     }
 
+    /// Whether registers were kept that were popped where the thread was interrupted.
+    pub(crate) fn popped(&self) -> bool
+        ensures { result ≡ self.now.popped }
+    {
+        self.popped
+    }
+
     /// The return addresses, the innermost frame's first.
     pub(crate) fn returns(&self) -> &[u64]
         ensures { result.now ≡ self.now.returns.items }
@@ -54,6 +65,7 @@ impl<'a> SampledStack<'a> {
         ensures returns { OnOk result (self.new.returns.items ≡ returns_of room.now.visited) }
         ensures name { shown_name self.new ≡ shown_name self.old }
         ensures end { self.new.end ≡ self.old.end }
+        ensures popped { self.new.popped ≡ self.old.popped }
     {
         self.returns.clear();
         for i in 0..room.visited_len() {
@@ -71,15 +83,15 @@ impl<'a> SampledStack<'a> {
     pub(crate) fn set(
         &mut self,
         name: Option<&'a [u8]>,
-        end: StackEnd,
+        marks: WalkMarks,
         room: &Room,
     ) -> Result<(), AllocError>
         ensures name { OnOk result (shown_name self.new ≡ option_map (λ n. n.now) name.entry) }
-        ensures walk { OnOk result (shown_walk self.new ≡
-            record { returns = returns_of room.now.visited; end = end }) }
+        ensures walk { OnOk result (shown_walk self.new ≡ marked_walk room.now.visited marks) }
     {
         self.name = name;
-        self.end = end;
+        self.end = marks.end;
+        self.popped = marks.popped;
         self.set_returns(room)
     }
 
@@ -87,11 +99,13 @@ impl<'a> SampledStack<'a> {
     fn copied(&self, alloc: Global) -> Result<SampledStack<'a>, AllocError>
         ensures name { IfOk result (λ stack. stack.name ≡ self.now.name) }
         ensures end { IfOk result (λ stack. stack.end ≡ self.now.end) }
+        ensures popped { IfOk result (λ stack. stack.popped ≡ self.now.popped) }
         ensures returns { IfOk result (λ stack. stack.returns.items ≡ self.now.returns.items) }
     {
         Ok(SampledStack {
             name: self.name,
             end: self.end,
+            popped: self.popped,
             returns: Vec::from_slice(alloc, &self.returns)?,
         })
     }

@@ -1,15 +1,14 @@
 // The text of a stack.
 ghost use Rattle.std.specs.Prelude.{◌≡◌, ◌≤◌, ◌==◌, ◌++◌, ◌∷◌, Bool, IfOk, IsTrue, OnOk, [], true, map};
 ghost use Rattle.std.specs.Option.{option_map};
-ghost use Rattle.stack_snapshot.specs.Origins.{file_name};
-ghost use Rattle.sampled_profile.specs.Ends.{end_word};
+ghost use Rattle.sampled_profile.specs.Ends.{end_word, popped_word};
 ghost use Rattle.sampled_profile.specs.Texts.{frame_text, place_text, root_text, word_text};
 ghost use Rattle.sampled_profile.specs.Texts.{written, written_name};
 ghost use Rattle.unwind_definitions.specs.LanguageSearch.{address_of_call};
 
-use crate::stack_end::StackEnd;
+use crate::stack_end::{StackEnd, popped_word};
 use stack_report::Report;
-use stack_snapshot::{Origin, Origins};
+use stack_snapshot::{Origin, Origins, file_name};
 use std::alloc::AllocError;
 
 /// A byte of a name as it is written.
@@ -66,19 +65,6 @@ pub(crate) fn put_root(report: &mut Report, name: Option<&[u8]>) -> Result<(), A
     }
 }
 
-/// The name of a file, without its folders. The last slash is sought from the end, since most names
-/// are short.
-fn name_at(path: &[u8]) -> &[u8]
-    ensures { result.now ≡ file_name path.now }
-{
-    for place in (0..path.len()).rev() {
-        if path[place] == b'/' {
-            return &path[place + 1..];
-        }
-    }
-    path
-}
-
 /// Puts an address last, by the file that it lies in, where there is one.
 pub(crate) fn put_place(
     report: &mut Report,
@@ -90,7 +76,7 @@ pub(crate) fn put_place(
 {
     match origin {
         Some(origin) => {
-            put_name(report, name_at(origin.path()))?;
+            put_name(report, file_name(origin.path()))?;
             report.put_field("+", address.wrapping_sub(origin.bias()))
         }
         None => report.put_field("", address),
@@ -131,15 +117,30 @@ pub(crate) fn put_frame(
     )
 }
 
-/// Puts last why a stack is told no further.
-pub(crate) fn put_end(report: &mut Report, end: StackEnd) -> Result<(), AllocError>
-    ensures { OnOk result (report.new ≡ report.old ++ word_text (end_word end)) }
+/// Puts a word last, with a semicolon before it, where there is one.
+fn put_word(report: &mut Report, word: Option<&'static str>) -> Result<(), AllocError>
+    ensures { OnOk result (report.new ≡ report.old ++
+        word_text (option_map (λ w. w.now) word.entry)) }
 {
-    match end.word() {
+    match word {
         Some(word) => {
             report.put(";")?;
             report.put(word)
         }
         None => Ok(()),
     }
+}
+
+/// Puts last why a stack is told no further.
+pub(crate) fn put_end(report: &mut Report, end: StackEnd) -> Result<(), AllocError>
+    ensures { OnOk result (report.new ≡ report.old ++ word_text (end_word end)) }
+{
+    put_word(report, end.word())
+}
+
+/// Puts last whether registers of a stack were kept that were popped.
+pub(crate) fn put_popped(report: &mut Report, popped: bool) -> Result<(), AllocError>
+    ensures { OnOk result (report.new ≡ report.old ++ word_text (popped_word popped)) }
+{
+    put_word(report, popped_word(popped))
 }

@@ -1,21 +1,30 @@
 // The walk of a sample.
-ghost use Rattle.std.specs.Prelude.{◌≡◌, ◌≤◌, true};
+ghost use Rattle.std.specs.Prelude.{◌≡◌, ◌≤◌};
 ghost use Rattle.perf_data.specs.Views.{sample_value, words_of};
-ghost use Rattle.stack_walks.specs.WalkEnds.{contexts_to_end};
-ghost use Rattle.sampled_profile.specs.Walks.{end_of, end_told};
-ghost use Rattle.sampled_profile.specs.Ends.{returns_of};
-ghost use Rattle.sampled_profile.specs.Walks.{sample_space, start_of, walk_of};
+ghost use Rattle.stack_steps.specs.Growing.{Grows, over_image};
+ghost use Rattle.sampled_profile.specs.Walks.{end_told, marked_walk};
+ghost use Rattle.sampled_profile.specs.Walks.{sample_space, start_of, walk_from, walk_of};
 
 use crate::stack_end::StackEnd;
-use memory_image::{MemoryImage, NoLedger, Steps};
+use memory_image::MemoryImage;
 use perf_data::{Sample, UserRegisters};
+use popped_registers::walk_interrupted;
 use stack_deliver::DeliverError;
-use stack_steps::{GrownSpace, Space};
-use stack_walks::{EndReason, Room, walk_to_end_over};
+use stack_steps::Space;
+use stack_walks::{EndReason, Room};
 use unwind_arch::x86_64::{Context, RSP};
 
 // the form of the registers of a program of 64 bits
 const ABI_64: u64 = 2;
+
+/// What is told of a walk beside its states.
+#[derive(Clone, Copy)]
+pub(crate) struct WalkMarks {
+    /// Why there are no more.
+    pub(crate) end: StackEnd,
+    /// Whether registers were kept that were popped where the thread was interrupted.
+    pub(crate) popped: bool,
+}
 
 /// The end that the reason of a walk tells.
 fn end_told(why: EndReason) -> StackEnd
@@ -34,22 +43,28 @@ fn end_told(why: EndReason) -> StackEnd
     }
 }
 
-/// Walks over a space that is seen over an image, from where a thread was interrupted.
-fn walk_grown<'t, 'a>(
-    space: &GrownSpace<'_, 't, 'a>,
+/// Walks over the modules of a space and an image, from where a thread was interrupted. Registers
+/// that were popped there are kept.
+fn walk_from<'s, 't>(
+    space: &'s Space<'t>,
+    image: &'s MemoryImage<'s>,
     start: &Context,
     limit: u32,
     room: &mut Room,
-) -> StackEnd
+) -> WalkMarks
 where
-    't: 'a,
-    requires { limit ≤ room.old.limit }
-    ensures states { room.new.visited ≡ contexts_to_end space.now limit start.now true }
-    ensures end { result ≡ end_of space.now limit start.now true }
+    't: 's,
+    requires within { limit ≤ room.old.limit }
+    requires grows { Grows space.now.image image.now }
+    ensures walk { marked_walk room.new.visited result ≡
+        walk_from (over_image space.now image.now) limit start.now }
     ensures places { room.new.limit ≡ room.old.limit }
 {
-    let steps = &mut Steps::new(NoLedger);
-    end_told(walk_to_end_over(space, start, true, limit, room, steps))
+    let walk = walk_interrupted(space, image, start, limit, room);
+    WalkMarks {
+        end: end_told(walk.why),
+        popped: walk.popped,
+    }
 }
 
 /// Walks over the modules of a space from where a thread was interrupted, over the space's memory and
@@ -61,20 +76,18 @@ fn walk_thread<'s, 't>(
     stack: &'s [u8],
     limit: u32,
     room: &mut Room,
-) -> StackEnd
+) -> WalkMarks
 where
     't: 's,
     requires { limit ≤ room.old.limit }
-    ensures states { room.new.visited ≡
-        contexts_to_end (sample_space space.now start.now stack.now) limit start.now true }
-    ensures end { result ≡
-        end_of (sample_space space.now start.now stack.now) limit start.now true }
+    ensures walk { marked_walk room.new.visited result ≡
+        walk_from (sample_space space.now start.now stack.now) limit start.now }
     ensures places { room.new.limit ≡ room.old.limit }
 {
     let image: &'s MemoryImage<'s> = space.image();
     match MemoryImage::over(image, start.registers[RSP], stack) {
-        Ok(grown) => walk_grown(&GrownSpace::new(space, &grown), start, limit, room),
-        Err(_) => walk_grown(&space.over_own_image(), start, limit, room),
+        Ok(grown) => walk_from(space, &grown, start, limit, room),
+        Err(_) => walk_from(space, image, start, limit, room),
     }
 }
 
@@ -96,9 +109,9 @@ pub(crate) fn walk_sample(
     limit: u32,
     sample: &Sample<'_>,
     room: &mut Room,
-) -> StackEnd
+) -> WalkMarks
     requires { limit ≤ room.old.limit }
-    ensures walk { record { returns = returns_of room.new.visited; end = result } ≡
+    ensures walk { marked_walk room.new.visited result ≡
         walk_of space.now limit (sample_value sample.now) }
     ensures places { room.new.limit ≡ room.old.limit }
 {
@@ -106,7 +119,7 @@ pub(crate) fn walk_sample(
         Ok(start) => walk_thread(space, &start, sample.stack, limit, room),
         Err(end) => {
             room.clear();
-            end
+            WalkMarks { end, popped: false }
         }
     }
 }

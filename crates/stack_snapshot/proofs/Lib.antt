@@ -1,6 +1,7 @@
 pub mod CoreTaken
 pub mod Disjoint
 pub mod Each
+pub mod FileNames
 pub mod Json
 pub mod Members
 pub mod RangeLemmas

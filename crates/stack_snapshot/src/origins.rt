@@ -58,17 +58,17 @@ impl Origin {
     }
 }
 
-/// The name of the file at a path: what is after the last slash.
+/// The name of the file at a path: what is after the last slash, which is sought from the end, since
+/// most names are short.
 pub fn file_name(path: &[u8]) -> &[u8]
     ensures { result.now ≡ file_name path.now }
 {
-    let mut start = 0;
-    for place in 0..path.len() {
+    for place in (0..path.len()).rev() {
         if path[place] == b'/' {
-            start = place + 1;
+            return &path[place + 1..];
         }
     }
-    &path[start..]
+    path
 }
 
 /// The files of the modules that name theirs, in the snapshot's order.

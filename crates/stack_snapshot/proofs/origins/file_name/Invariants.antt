@@ -1,9 +1,7 @@
-use Rattle.std.proofs.Common.{◌≡◌, ◌≤◌, drop}
-use Rattle.stack_snapshot.specs.Origins.{after_last, file_name}
+use Rattle.std.proofs.Common.{◌≡◌, List, ℕ, drop}
+use Rattle.stack_snapshot.specs.Origins.{after_last}
 use Rattle.stack_snapshot.proofs.origins.file_name.Given as goal
 
+-- no slash is there from the place on
 abbrev pub invariant-loop-place : goal.invariant-loop-place
-invariant-loop-place l = record {
-  within : l.start ≤ l.place;
-  rest : after_last (drop l.start l.path) (drop l.place l.path) ≡ file_name l.path;
-}
+invariant-loop-place l = (kept : List ℕ) → after_last kept (drop l.place l.path) ≡ kept

@@ -1,4 +1,4 @@
-use Rattle.std.proofs.Common.{List, ℕ, subst, sym, refl, ◌∙◌}
+use Rattle.std.proofs.Common.{List, ℕ, subst, sym}
 use Rattle.std.specs.Prelude.{All}
 use Rattle.std.specs.Vec.{vec_len}
 use Rattle.sampled_profile.specs.Tables.{IsKept}

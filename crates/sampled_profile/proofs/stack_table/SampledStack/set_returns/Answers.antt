@@ -7,4 +7,5 @@ loop-i-preserved c = record {
   returns = one_more_return c.args.room.now.visited c.loop-i.i c.unwrap-state.result c.loop-i.self.returns.items c.push.new.self.items (sym c.visited.ensures ∙ c.unwrap-state.ensures) c.loop-i.invariant.returns c.in_ok-push.ensures.items;
   name = c.loop-i.invariant.name;
   end = c.loop-i.invariant.end;
+  popped = c.loop-i.invariant.popped;
 }

@@ -8,4 +8,5 @@ invariant-loop-i l = record {
   returns : l.self.returns.items ≡ returns_of (take l.i l.room.visited);
   name : shown_name l.self ≡ shown_name l.fn.self;
   end : l.self.end ≡ l.fn.self.end;
+  popped : l.self.popped ≡ l.fn.self.popped;
 }
