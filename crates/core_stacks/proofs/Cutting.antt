@@ -1,16 +1,15 @@
 -- A core is read up to one byte past the most that are read as one.
-use Rattle.std.proofs.Common.{◌≡◌, ℕ, suc, ◌+◌, ◌≤◌, ◌<◌, Bool, true, false, ltb, cond, List, length, take, drop, Result, refl, sym, ap, ◌∙◌, arith}
+use Rattle.std.proofs.Common.{◌≡◌, ℕ, ◌+◌, ◌≤◌, Bool, true, false, ltb, List, length, take, refl, ap, arith}
 use Rattle.std.proofs.lemmas.Bool.{ltb-false, ltb-true, lt-ltb}
 use Rattle.std.proofs.lemmas.List.{take_all}
 use Rattle.std.proofs.Math.Seq.{length-take-le}
-use Rattle.core_file.specs.CoreValue.{core_of}
-use Rattle.core_stacks.specs.Due.{bytes_due, core_due, most_bytes}
+use Rattle.core_stacks.specs.Due.{bytes_due, most_bytes}
 
 -- so what is due for these bytes is due for the file
-pub cut_due : (files : List ℕ → List ℕ) (whole : List ℕ) → bytes_due files (take (most_bytes + 1) whole) ≡ bytes_due files whole
-cut_due files whole = go (ltb most_bytes (length whole)) refl
+pub cut_due : (names : Bool) (files : List ℕ → List ℕ) (whole : List ℕ) → bytes_due names files (take (most_bytes + 1) whole) ≡ bytes_due names files whole
+cut_due names files whole = go (ltb most_bytes (length whole)) refl
   where
-    go : (long : Bool) → ltb most_bytes (length whole) ≡ long → bytes_due files (take (most_bytes + 1) whole) ≡ bytes_due files whole
+    go : (long : Bool) → ltb most_bytes (length whole) ≡ long → bytes_due names files (take (most_bytes + 1) whole) ≡ bytes_due names files whole
     go true is =
         let fits : most_bytes + 1 ≤ length whole = (let lt = ltb-true most_bytes (length whole) is in omega arith) in
         let size : length (take (most_bytes + 1) whole) ≡ most_bytes + 1 = length-take-le (most_bytes + 1) whole fits in
@@ -18,4 +17,4 @@ cut_due files whole = go (ltb most_bytes (length whole)) refl
         rw (past, is) refl
     go false is =
         let fits : length whole ≤ most_bytes + 1 = (let le = ltb-false most_bytes (length whole) is in omega arith) in
-        ap (bytes_due files) (take_all (most_bytes + 1) whole fits)
+        ap (bytes_due names files) (take_all (most_bytes + 1) whole fits)

@@ -3,4 +3,4 @@ use Rattle.std.specs.Prelude.{ℕ, List, codes}
 use Rattle.stack_report.specs.Report.{line}
 
 abbrev pub usage_line : List ℕ
-usage_line = line (codes "usage: core_stacks CORE")
+usage_line = line (codes "usage: core_stacks [--names] CORE")

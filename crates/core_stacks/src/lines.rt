@@ -9,5 +9,5 @@ use std::alloc::{AllocError, Global};
 pub(crate) fn usage_line(alloc: Global) -> Result<Report, AllocError>
     ensures { IfOk result (λ report. report ≡ usage_line) }
 {
-    line_of(alloc, "usage: core_stacks CORE")
+    line_of(alloc, "usage: core_stacks [--names] CORE")
 }

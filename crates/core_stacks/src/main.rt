@@ -1,7 +1,9 @@
-//! Writes the walks of all threads of a core file, whose path is its word. The frame tables are those
-//! of the files that the core says were mapped. docs/FORMATS.md has the lines.
+//! Writes the walks of all threads of a core file, whose path is its last word, after `--names` with
+//! the functions of their frames. The frame tables and the symbols are those of the files that the
+//! core says were mapped. docs/FORMATS.md has the lines.
 #![tactic(auto)]
 
+mod asked;
 mod lines;
 mod running;
 mod sample;

@@ -1,6 +1,6 @@
 // One run of the program, from its words and the files to its output.
-ghost use Rattle.std.specs.Prelude.{◌≡◌, ◌≢◌, ◌⊎◌, [], ℕ, List, None, IfOk, IsErrOf};
-ghost use Rattle.std.specs.Prelude.{map, string_bytes, ◌∷◌, Ok, Some, slice_get, true};
+ghost use Rattle.std.specs.Prelude.{◌≡◌, ◌≢◌, ◌⊎◌, [], ℕ, List, None, IfOk, IsErrOf, MatchResult};
+ghost use Rattle.std.specs.Prelude.{map, ◌∷◌, Ok, Some, slice_get, true};
 ghost use Rattle.std.specs.Option.{option_map};
 ghost use Rattle.std.specs.Io.KnownBytes.{Appends};
 ghost use Rattle.memory_image.specs.Ends.{Rose};
@@ -20,15 +20,20 @@ ghost use Rattle.command_ends.specs.Verdicts.{IsReadyOrFailed, Tells, verdict};
 ghost use Rattle.mapped_files.specs.Files.{AreTold};
 ghost use Rattle.mapped_modules.specs.Loading.{loaded_value};
 ghost use Rattle.mapped_modules.specs.Spaces.{space_of_core};
-ghost use Rattle.core_stacks.specs.Due.{Asks, bytes_due, core_due, core_named, due_of};
-ghost use Rattle.core_stacks.specs.Due.{lines_with, modules_in, most_states, space_in};
+ghost use Rattle.core_stacks.specs.Due.{Asks, AsksNames, bytes_due, core_asked, core_due, due_of};
+ghost use Rattle.core_stacks.specs.Due.{lines_due, lines_with, modules_in, most_states, space_in};
+ghost use Rattle.mapped_names.specs.Places.{parts_of};
+ghost use Rattle.named_walks.specs.Named.{named_threads_text};
 
+use crate::asked::core_asked;
 use crate::lines::usage_line;
 use command_ends::{Answer, Status, Words, silent_answer, text_answer, write_answer};
 use core_file::{CoreFile, MappedParts, mapped_parts};
 use core_walks::{core_refused_line, walks_of_threads};
-use mapped_modules::{Files, LoadedModule, PartError, loaded_modules, space_of_core};
+use mapped_files::{Files, PartError};
+use mapped_modules::{LoadedModule, loaded_modules, space_of_core};
 use memory_image::Sink;
+use named_walks::{FrameNames, named_walks_of_threads};
 use stack_report::{Report, line_of};
 use std::alloc::{AllocError, Global};
 
@@ -50,6 +55,26 @@ fn walks_over(
 {
     let space = space_of_core(alloc, loaded, core)?;
     walks_of_threads(alloc, &space, core.threads(), MOST_STATES)
+}
+
+/// The same with the functions of their frames, by the files that were mapped.
+fn named_walks_over<F: Files>(
+    alloc: Global,
+    files: &F,
+    parts: Option<MappedParts<'_>>,
+    core: &CoreFile<'_>,
+    loaded: &[LoadedModule],
+) -> Result<Report, PartError>
+    ensures told { (all : List ℕ → List ℕ) → AreTold (F.content files.now) all →
+        IfOk result (λ report. report ≡ named_threads_text all
+        (parts_of (option_map parts_left parts.entry))
+        (space_of_core (map loaded_value loaded.now) core.now.segments) most_states 0
+        core.now.threads) }
+    ensures fault { IsErrOf result PartError.Fault → F.may_fail files.now }
+{
+    let space = space_of_core(alloc, loaded, core)?;
+    let mut names = FrameNames::new(alloc, files, parts)?;
+    named_walks_of_threads(alloc, &space, core.threads(), MOST_STATES, &mut names)
 }
 
 /// The modules of the files that a core says were mapped, none where it doesn't say.
@@ -81,41 +106,98 @@ fn failed_answer(alloc: Global, error: PartError) -> Answer
     }
 }
 
+/// The answer with the text, unless a read failed or memory ran out.
+fn report_answer(alloc: Global, text: Result<Report, PartError>) -> Answer
+    ensures { MatchResult text (λ report. (result.status ≡ Status.Done) × (result.text ≡ report))
+        (λ error. (result.text ≡ []) ×
+        ((result.status ≡ Status.ReadFault) × (error ≡ PartError.Fault)
+        ⊎ (result.status ≡ Status.Memory))) }
+{
+    match text {
+        Ok(text) => Answer {
+            status: Status::Done,
+            text,
+        },
+        Err(error) => failed_answer(alloc, error),
+    }
+}
+
+/// The lines of a core's threads, over these modules, with the functions of their frames where they
+/// are asked for.
+fn lines_over<F: Files>(
+    alloc: Global,
+    files: &F,
+    names: bool,
+    bytes: &[u8],
+    core: &CoreFile<'_>,
+    loaded: &[LoadedModule],
+) -> Result<Report, PartError>
+    ensures told { (all : List ℕ → List ℕ) → AreTold (F.content files.now) all →
+        map loaded_value loaded.now ≡ modules_in all (mapped_parts bytes.now) →
+        IfOk result (λ report. report ≡ lines_due names all bytes.now core.now) }
+    ensures fault { IsErrOf result PartError.Fault → F.may_fail files.now }
+{
+    if names {
+        named_walks_over(alloc, files, mapped_parts(bytes), core, loaded)
+    } else {
+        Ok(walks_over(alloc, core, loaded)?)
+    }
+}
+
+/// The lines of a core's threads.
+fn lines_of<F: Files>(
+    alloc: Global,
+    files: &F,
+    names: bool,
+    bytes: &[u8],
+    core: &CoreFile<'_>,
+) -> Result<Report, PartError>
+    ensures told { (all : List ℕ → List ℕ) → AreTold (F.content files.now) all →
+        IfOk result (λ report. report ≡ lines_due names all bytes.now core.now) }
+    ensures fault { IsErrOf result PartError.Fault → F.may_fail files.now }
+{
+    let loaded = modules_in(alloc, files, mapped_parts(bytes))?;
+    lines_over(alloc, files, names, bytes, core, &loaded)
+}
+
 /// The answer to a core.
-fn walked_answer<F: Files>(alloc: Global, files: &F, bytes: &[u8], core: &CoreFile<'_>) -> Answer
+fn walked_answer<F: Files>(
+    alloc: Global,
+    files: &F,
+    names: bool,
+    bytes: &[u8],
+    core: &CoreFile<'_>,
+) -> Answer
     requires { core_of bytes.now ≡ Ok core.now }
     ensures told { (all : List ℕ → List ℕ) → AreTold (F.content files.now) all →
-        IsReadyOrFailed (core_due all bytes.now (core_of bytes.now)) result.status result.text }
+        IsReadyOrFailed (core_due names all bytes.now (core_of bytes.now)) result.status result.text }
     ensures silent { (result.status ≡ Status.Memory) ⊎ (result.status ≡ Status.ReadFault) →
         result.text ≡ [] }
     ensures fault { result.status ≡ Status.ReadFault → F.may_fail files.now }
     ensures kind { (result.status ≢ Status.Usage) × (result.status ≢ Status.WriteFault) }
 {
-    match modules_in(alloc, files, mapped_parts(bytes)) {
-        Ok(loaded) => text_answer(alloc, Status::Done, walks_over(alloc, core, &loaded)),
-        Err(error) => failed_answer(alloc, error),
-    }
+    report_answer(alloc, lines_of(alloc, files, names, bytes, core))
 }
 
 /// The answer to bytes that are read as a core.
-fn core_answer<F: Files>(alloc: Global, files: &F, bytes: &[u8]) -> Answer
+fn core_answer<F: Files>(alloc: Global, files: &F, names: bool, bytes: &[u8]) -> Answer
     ensures told { (all : List ℕ → List ℕ) → AreTold (F.content files.now) all →
-        IsReadyOrFailed (core_due all bytes.now (core_of bytes.now)) result.status result.text }
+        IsReadyOrFailed (core_due names all bytes.now (core_of bytes.now)) result.status result.text }
     ensures silent { (result.status ≡ Status.Memory) ⊎ (result.status ≡ Status.ReadFault) →
         result.text ≡ [] }
     ensures fault { result.status ≡ Status.ReadFault → F.may_fail files.now }
     ensures kind { (result.status ≢ Status.Usage) × (result.status ≢ Status.WriteFault) }
 {
     match CoreFile::parse(bytes) {
-        Ok(core) => walked_answer(alloc, files, bytes, &core),
+        Ok(core) => walked_answer(alloc, files, names, bytes, &core),
         Err(error) => text_answer(alloc, Status::Refused, core_refused_line(alloc, error)),
     }
 }
 
 /// The answer to the bytes of a file, of which one more than are read as a core may be there.
-fn bytes_answer<F: Files>(alloc: Global, files: &F, bytes: &[u8]) -> Answer
+fn bytes_answer<F: Files>(alloc: Global, files: &F, names: bool, bytes: &[u8]) -> Answer
     ensures told { (all : List ℕ → List ℕ) → AreTold (F.content files.now) all →
-        IsReadyOrFailed (bytes_due all bytes.now) result.status result.text }
+        IsReadyOrFailed (bytes_due names all bytes.now) result.status result.text }
     ensures silent { (result.status ≡ Status.Memory) ⊎ (result.status ≡ Status.ReadFault) →
         result.text ≡ [] }
     ensures fault { result.status ≡ Status.ReadFault → F.may_fail files.now }
@@ -124,40 +206,23 @@ fn bytes_answer<F: Files>(alloc: Global, files: &F, bytes: &[u8]) -> Answer
     if bytes.len() as u64 > MOST_BYTES {
         return text_answer(alloc, Status::TooLong, line_of(alloc, "too long"));
     }
-    core_answer(alloc, files, bytes)
+    core_answer(alloc, files, names, bytes)
 }
 
 /// The answer to the file of a path.
 #[tactic(auto, using(crate::proofs::Cutting::cut_due))]
-fn file_answer<F: Files>(alloc: Global, files: &F, path: &[u8]) -> Answer
+fn file_answer<F: Files>(alloc: Global, files: &F, names: bool, path: &[u8]) -> Answer
     ensures told { (all : List ℕ → List ℕ) → AreTold (F.content files.now) all →
-        IsReadyOrFailed (bytes_due all (all path.now)) result.status result.text }
+        IsReadyOrFailed (bytes_due names all (all path.now)) result.status result.text }
     ensures silent { (result.status ≡ Status.Memory) ⊎ (result.status ≡ Status.ReadFault) →
         result.text ≡ [] }
     ensures fault { result.status ≡ Status.ReadFault → F.may_fail files.now }
     ensures kind { (result.status ≢ Status.Usage) × (result.status ≢ Status.WriteFault) }
 {
     match files.read_part(alloc, path, 0, MOST_BYTES + 1) {
-        Ok(bytes) => bytes_answer(alloc, files, &bytes),
+        Ok(bytes) => bytes_answer(alloc, files, names, &bytes),
         Err(error) => failed_answer(alloc, error),
     }
-}
-
-fn core_in(words: &[String]) -> Option<&str>
-    ensures { option_map (λ path. path.now) result ≡
-        core_named (map (λ word. string_bytes word) words.now) }
-{
-    match words {
-        [path] => Some(path.as_str()),
-        _ => None,
-    }
-}
-
-/// The path of the core that the words name.
-fn core_named(words: &Words) -> Option<&str>
-    ensures { option_map (λ path. path.now) result ≡ core_named words.now }
-{
-    core_in(words.as_slice())
 }
 
 fn decide<F: Files>(alloc: Global, words: &Words, files: &F) -> Answer
@@ -167,18 +232,19 @@ fn decide<F: Files>(alloc: Global, words: &Words, files: &F) -> Answer
         result.text ≡ [] }
     ensures fault { result.status ≡ Status.ReadFault → F.may_fail files.now }
     ensures kind { result.status ≢ Status.WriteFault }
-    ensures usage { result.status ≡ Status.Usage → core_named words.now ≡ None }
+    ensures usage { result.status ≡ Status.Usage → core_asked words.now ≡ None }
 {
-    match core_named(words) {
-        Some(path) => file_answer(alloc, files, path.as_bytes()),
+    match core_asked(words) {
+        Some(asked) => file_answer(alloc, files, asked.names, asked.path.as_bytes()),
         None => text_answer(alloc, Status::Usage, usage_line(alloc)),
     }
 }
 
 /// Writes the walks of all threads of the core file that the words name to the output, or why there are none.
 ///
-/// The core is read whole, but for what follows its 4,294,967,297th byte, and of each file that it says
-/// was mapped the front and the segment that has its frame table. Running out of memory is `Memory`.
+/// The core is read whole, but for what follows its 4,294,967,297th byte, and of each file that it
+/// says was mapped the front and the segment that has its frame table; for names also the symbols of
+/// the files in which frames stand. Running out of memory is `Memory`.
 pub fn run<F: Files, O: Sink>(alloc: Global, words: &Words, files: &F, output: &mut O) -> Status
     // What is due for the words and for what the files have is answered and written.
     ensures told { (all : List ℕ → List ℕ) → AreTold (F.content files.now) all →
@@ -201,8 +267,15 @@ pub fn run<F: Files, O: Sink>(alloc: Global, words: &Words, files: &F, output: &
         StartsKnownStack (space_in all bytes core) thread most_states true s callers →
         Tells (verdict Status.Done (lines_with (space_in all bytes core) core index
         (thread_lines index (s ∷ callers)))) result (O.holds output.old) (O.holds output.new) }
+    // Where names are asked for, each frame's line has the function of the frame, by the symbols of
+    // the file that was mapped there.
+    ensures named { (all : List ℕ → List ℕ) → AreTold (F.content files.now) all →
+        (bytes : List ℕ) (core : CoreValue) → AsksNames all words.now bytes core →
+        Tells (verdict Status.Done (named_threads_text all (parts_of (mapped_parts bytes))
+        (space_in all bytes core) most_states 0 core.threads)) result (O.holds output.old)
+        (O.holds output.new) }
     // Words that don't name one core are answered so, and no others.
-    ensures usage { result ≡ Status.Usage → core_named words.now ≡ None }
+    ensures usage { result ≡ Status.Usage → core_asked words.now ≡ None }
     // Without memory, and after a fault of a file, nothing is written; a fault is answered only where
     // a read may fail, or one of the output rose.
     ensures silent { (result ≡ Status.Memory) ⊎ (result ≡ Status.ReadFault) →

@@ -1,7 +1,7 @@
 // The system's files.
 ghost use Rattle.std.specs.Prelude.{◌≡◌, ◌+◌, ◌≤◌, IfOk, length};
 
-use mapped_modules::{Files, PartError};
+use mapped_files::{Files, PartError};
 use std::alloc::Global;
 use std::fs::File;
 use std::io::ErrorKind;

@@ -1,7 +1,7 @@
 use Rattle.std.proofs.Common.{ℕ, List, sym, subst, ◌∙◌}
 use Rattle.command_ends.specs.Verdicts.{IsReadyOrFailed, Tells, Verdict}
 use Rattle.core_stacks.specs.Due.{due_of}
-use Rattle.core_stacks.proofs.Threads.{known_due, stopped_due}
+use Rattle.core_stacks.proofs.Threads.{known_due, names_due, stopped_due}
 use Rattle.core_stacks.proofs.running.run.Goals as goal
 
 pub returns-clause-told : goal.returns-clause-told
@@ -17,3 +17,7 @@ returns-clause-stopped g c = λ all tells bytes core index thread functions s ca
 pub returns-clause-known : goal.returns-clause-known
 returns-clause-known g c = λ all tells bytes core index thread s callers asks at starts.
     subst (λ (due : Verdict). Tells due c.write_answer.result (g.O.Sink.holds c.args.output.now) (g.O.Sink.holds c.write_answer.new.output)) (known_due all c.args.words.now bytes core index thread s callers asks at starts) (returns-clause-told g c all tells)
+
+pub returns-clause-named : goal.returns-clause-named
+returns-clause-named g c = λ all tells bytes core asks.
+    subst (λ (due : Verdict). Tells due c.write_answer.result (g.O.Sink.holds c.args.output.now) (g.O.Sink.holds c.write_answer.new.output)) (names_due all c.args.words.now bytes core asks) (returns-clause-told g c all tells)

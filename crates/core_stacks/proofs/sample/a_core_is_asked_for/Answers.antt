@@ -4,4 +4,7 @@ use Rattle.core_file.proofs.SampleLemmas.{one_thread_is_read}
 use Rattle.core_stacks.proofs.sample.a_core_is_asked_for.Goals as goal
 
 pub returns : goal.returns
-returns c = record { path = codes "core"; named = refl; has = refl; short = lit≤ tt; reads = one_thread_is_read }
+returns c = record {
+  plain = record { path = codes "core"; named = refl; has = refl; short = lit≤ tt; reads = one_thread_is_read };
+  names = record { path = codes "core"; named = refl; has = refl; short = lit≤ tt; reads = one_thread_is_read };
+}
