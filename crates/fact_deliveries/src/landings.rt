@@ -47,7 +47,7 @@ pub fn a_throw_of_cxx_is_known()
 /// cleanup's and the second a handler's of another type (`examples/guarded_handler.cpp`), the handler of
 /// the third takes an exception of its type, and finds its number in RDX. The cleanup of the frame inside
 /// runs before.
-pub fn a_handler_behind_a_cleanup_is_known()
+pub fn a_handler_after_a_cleanup_is_known()
     ensures laid_out { IsLaidOut 0 guarded.space.image }
     ensures apart { AreApart 0 guarded.space.modules }
     ensures starts { StartsKnownThrow guarded.languages guarded.space guarded.start

@@ -8,6 +8,6 @@ mod landings;
 
 pub use deliveries::{described_deliveries_are_known, known_delivery_is_one};
 pub use landings::{
-    a_handler_behind_a_cleanup_is_known, a_throw_of_cxx_is_known,
-    landings_past_arguments_are_known, landings_through_formats_are_known,
+    a_handler_after_a_cleanup_is_known, a_throw_of_cxx_is_known, landings_past_arguments_are_known,
+    landings_through_formats_are_known,
 };

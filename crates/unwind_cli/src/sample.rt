@@ -297,7 +297,7 @@ pub fn landings_past_arguments_are_known()
 /// `run` asks of a stack of each of whose frames it is known what its language table says, from its
 /// bytes on. The frame that takes the exception does so by the third record of one chain: the first is
 /// a cleanup's, and the second a handler's of another type. This text is then due.
-pub fn a_handler_behind_a_cleanup_is_known()
+pub fn a_handler_after_a_cleanup_is_known()
     ensures read { AsksThrow (codes "throw" ∷ []) (Some behind.json) behind.thrown }
     ensures starts { StartsKnownThrow (languages_in behind.thrown) (space_of behind.snapshot)
         behind.snapshot.start behind.snapshot.resumes behind.snapshot.limit guarded.in_raises

@@ -1,6 +1,6 @@
-// What is delivered, walked and folded of a snapshot, over indexes of its frame tables.
-ghost use Rattle.std.specs.Prelude.{◌≡◌, ℕ, Bool, List, IfOk};
-ghost use Rattle.unwind_arch.specs.declared.x86_64.Context.{Context};
+// What is delivered, walked and folded of a snapshot, over indexes of frame tables where they pay.
+ghost use Rattle.std.specs.Prelude.{◌≡◌, ◌≢◌, ◌≤◌, ℕ, Bool, false, List, Err, IfOk, IfSome};
+ghost use Rattle.unwind_arch.specs.declared.x86_64.Context.{Context as State};
 ghost use Rattle.stack_walks.specs.Lines.{GivesUnlessNoMemory, line_of};
 ghost use Rattle.stack_deliver.specs.StackDelivery.{delivery_through};
 ghost use Rattle.stack_steps.specs.Languages.{Languages};
@@ -12,16 +12,15 @@ use folded_stacks::{FoldError, Folded, fold};
 use stack_deliver::{DeliverError, Delivery, Space, Visited, deliver, throw, walk};
 use stack_snapshot::{SampledSnapshot, Snapshot, ThrownSnapshot};
 use std::alloc::{AllocError, Global};
+use unwind_arch::x86_64::{Context, RSP};
 
 /// The space of a snapshot, in which its modules are prepared where they can be. Nothing is
 /// answered otherwise over it.
 fn prepared_space(alloc: Global, snapshot: &Snapshot) -> Result<Space<'_>, AllocError>
-    ensures delivery { IfOk result (λ space. (languages : Languages) (c : Context) (exception : ℕ)
+    ensures { IfOk result (λ space. (languages : Languages) (c : State) (exception : ℕ)
         (resumes : List (ℕ × ℕ)) (limit : ℕ) →
         delivery_through languages space c exception resumes limit ≡
         delivery_through languages (space_of snapshot.now) c exception resumes limit) }
-    ensures walk { IfOk result (λ space. (limit : ℕ) (c : Context) (interrupted : Bool) →
-        line_of space limit c interrupted ≡ line_of (space_of snapshot.now) limit c interrupted) }
 {
     let mut space = snapshot.space(alloc)?;
     space.prepare()?;
@@ -71,7 +70,78 @@ pub fn throw_snapshot(alloc: Global, thrown: &ThrownSnapshot) -> Result<Delivery
     )
 }
 
-/// The states of a snapshot's stack.
+// Less stack than this is short, and so many frames of it are searched for before modules are
+// prepared: a real frame takes some 64 bytes, and an index of a frame table costs as much as some 50
+// searches of it.
+const LONG_STACK: usize = 8192;
+
+const FEW_FRAMES: u32 = 128;
+
+/// Whether little stack is mapped from the stack pointer on.
+fn has_short_stack(space: &Space<'_>, start: &Context) -> bool {
+    let stack = space.image().bytes_from(start.registers[RSP]);
+    stack.len() < LONG_STACK
+}
+
+/// As many frames as are searched for, of so many.
+fn few_frames(limit: u32) -> u32
+    ensures { result ≤ limit }
+{
+    if limit < FEW_FRAMES {
+        limit
+    } else {
+        FEW_FRAMES
+    }
+}
+
+/// Whether a walk has more states than it may have.
+fn meets_limit(walked: &Result<Visited, DeliverError>) -> bool
+    ensures { result ≡ false → walked.now ≢ Err DeliverError.FrameLimit }
+{
+    match walked {
+        Err(DeliverError::FrameLimit) => true,
+        _ => false,
+    }
+}
+
+/// The states of a short stack, where they are few: over a space as it is, and so of a stack that
+/// loops too. `None` where they aren't.
+fn few_states(
+    alloc: Global,
+    space: &Space<'_>,
+    start: &Context,
+    interrupted: bool,
+    limit: u32,
+) -> Option<Result<Visited, DeliverError>>
+    ensures { IfSome result (λ walked.
+        GivesUnlessNoMemory walked (line_of space.now limit start.now interrupted)) }
+{
+    if !has_short_stack(space, start) {
+        return None;
+    }
+    let few = few_frames(limit);
+    let walked = walk(alloc, space, start, interrupted, few);
+    if meets_limit(&walked) {
+        return None;
+    }
+    Some(walked)
+}
+
+/// The states of a stack over a space whose modules are prepared first, where they can be.
+fn prepared_states(
+    alloc: Global,
+    space: &mut Space<'_>,
+    start: &Context,
+    interrupted: bool,
+    limit: u32,
+) -> Result<Visited, DeliverError>
+    ensures { GivesUnlessNoMemory result (line_of space.old limit start.now interrupted) }
+{
+    space.prepare()?;
+    walk(alloc, space, start, interrupted, limit)
+}
+
+/// The states of a snapshot's stack. Modules are prepared where it isn't short, or has many states.
 ///
 /// # Errors
 ///
@@ -79,15 +149,14 @@ pub fn throw_snapshot(alloc: Global, thrown: &ThrownSnapshot) -> Result<Delivery
 pub fn walk_snapshot(alloc: Global, snapshot: &Snapshot) -> Result<Visited, DeliverError>
     ensures { GivesUnlessNoMemory result (walk_from snapshot.now) }
 {
-    let space = prepared_space(alloc, snapshot)?;
+    let mut space = snapshot.space(alloc)?;
     let start = snapshot.start();
-    walk(
-        alloc,
-        &space,
-        &start,
-        snapshot.interrupted(),
-        snapshot.limit(),
-    )
+    let interrupted = snapshot.interrupted();
+    let limit = snapshot.limit();
+    if let Some(walked) = few_states(alloc, &space, &start, interrupted, limit) {
+        return walked;
+    }
+    prepared_states(alloc, &mut space, &start, interrupted, limit)
 }
 
 /// The space of samples, in which its modules are prepared where they can be. Nothing is answered
@@ -96,7 +165,7 @@ fn prepared_sampled_space(
     alloc: Global,
     snapshot: &SampledSnapshot,
 ) -> Result<Space<'_>, AllocError>
-    ensures { IfOk result (λ space. (limit : ℕ) (c : Context) (interrupted : Bool) →
+    ensures { IfOk result (λ space. (limit : ℕ) (c : State) (interrupted : Bool) →
         line_of space limit c interrupted ≡
         line_of (sampled_space snapshot.now) limit c interrupted) }
 {

@@ -12,5 +12,5 @@ unfolding delivery_from
 returns c =
     let s = c.args.snapshot.now in
     let same : stack_delivery (space_of s) c.start-start.result c.exception.result c.resumes.result.now c.limit.result ≡ delivery_from s = rw (c.start-start.ensures, c.exception.ensures, c.resumes.ensures, c.limit.ensures) refl in
-    let is = c.in_ok-space.ensures.delivery rust_alone c.start-start.result c.exception.result c.resumes.result.now c.limit.result ∙ same in
+    let is = c.in_ok-space.ensures rust_alone c.start-start.result c.exception.result c.resumes.result.now c.limit.result ∙ same in
     subst (λ (due : Result DeliveryValue DeliverError). GivesUnlessNoMemory c.deliver.result due) is c.deliver.ensures.exact

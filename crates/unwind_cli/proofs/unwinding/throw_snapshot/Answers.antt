@@ -15,5 +15,5 @@ returns c =
     let spoken = languages_of c.languages.result in
     let same : delivery_through spoken (space_of n) c.start-start.result c.exception.result c.resumes.result.now c.limit.result ≡ thrown_from s =
     rw (c.start-start.ensures, c.exception.ensures, c.resumes.ensures, c.limit.ensures, c.languages.ensures, c.snapshot-snapshot.ensures) refl in
-    let is = c.in_ok-space.ensures.delivery spoken c.start-start.result c.exception.result c.resumes.result.now c.limit.result ∙ same in
+    let is = c.in_ok-space.ensures spoken c.start-start.result c.exception.result c.resumes.result.now c.limit.result ∙ same in
     subst (λ (due : Result DeliveryValue DeliverError). GivesUnlessNoMemory c.throw.result due) is c.throw.ensures.exact

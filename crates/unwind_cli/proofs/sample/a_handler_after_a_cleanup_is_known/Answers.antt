@@ -11,7 +11,7 @@ use Rattle.stack_snapshot.specs.Answers.{value_of}
 use Rattle.stack_snapshot.specs.Snapshot.{regions_of, modules_of, start_of, resumes_of, limit_of, interrupted_of, whole_numbers, snapshot_of}
 use Rattle.stack_snapshot.specs.Thrown.{foreign_of, runtime_of, thrown_of}
 use Rattle.unwind_cli.specs.Guarded.{json}
-use Rattle.unwind_cli.proofs.sample.a_handler_behind_a_cleanup_is_known.Goals as goal
+use Rattle.unwind_cli.proofs.sample.a_handler_after_a_cleanup_is_known.Goals as goal
 
 pub returns-clause-read : goal.returns-clause-read
 unfolding is_utf8 chars encode_utf8 decode_pairs serde_json_on_literals value_of regions_of modules_of start_of resumes_of limit_of interrupted_of whole_numbers snapshot_of foreign_of runtime_of thrown_of

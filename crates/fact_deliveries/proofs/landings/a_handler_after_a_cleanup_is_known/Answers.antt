@@ -1,5 +1,5 @@
 use Rattle.fact_deliveries.proofs.GuardedStarts.{guarded_apart, guarded_laid_out, guarded_starts}
-use Rattle.fact_deliveries.proofs.landings.a_handler_behind_a_cleanup_is_known.Goals as goal
+use Rattle.fact_deliveries.proofs.landings.a_handler_after_a_cleanup_is_known.Goals as goal
 
 pub returns-clause-laid_out : goal.returns-clause-laid_out
 returns-clause-laid_out c = guarded_laid_out
