@@ -1,6 +1,6 @@
 #!/usr/bin/env bash
 # Prints how long the backtraces of all threads of a core or a process take, by backtrace.sh, gdb and
-# eu-stack, and whether their frames are the same; and of a core how long core_stacks takes.
+# eu-stack, and whether their frames are the same; and of a core how long core_stacks takes, without names and with.
 #
 #   cores.sh PROGRAM CORE
 #   cores.sh PID                   a process whose threads wait, or that is stopped (kill -STOP)
@@ -47,6 +47,8 @@ gdb_status=$?
 if [ $# -eq 2 ] && [ -x "$core_stacks" ]; then
     timed core_stacks "$core_stacks" "$2"
     line core_stacks "$(grep -c '^thread ' "$scratch/core_stacks") threads, $(grep -c '^frame ' "$scratch/core_stacks") states, without names"
+    timed named "$core_stacks" --names "$2"
+    line named "$(grep -c '^frame .* in ' "$scratch/named") states with a function or a file, by core_stacks --names"
 fi
 line eu-stack "$(python3 "$here/core_frames.py" "$scratch/ours" "$scratch/eu-stack")"
 [ $gdb_status -eq 0 ] && python3 "$here/core_frames.py" "$scratch/ours" "$scratch/eu-stack" > /dev/null

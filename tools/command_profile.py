@@ -4,8 +4,9 @@
     command_profile.py [--svg FILE] [--folded FILE] [--script FILE] [--frequency N] [--profile PROGRAM] COMMAND [WORD]...
 
 The picture goes to FILE (profile.svg), by flame_picture.py. With --folded the same stacks are written as flamegraph.pl, inferno
-and speedscope read them: the thread's name, why a stack ends early where it does, and the functions from the outermost
-inwards, with semicolons between them, a space and the number of samples. With --script the samples are written one after
+and speedscope read them: the thread's name, why a stack ends early where it does, the functions from the outermost inwards, and
+`[popped]` where registers were kept that were popped in the innermost one, with semicolons between them, a space and the number
+of samples. With --script the samples are written one after
 another in the text form of `perf script`, which Firefox Profiler reads, too: with their times, and the innermost frame first. The
 files are written when all is there, and else not at all. The command has its own standard streams; lines on standard error say how far the profile is.
 
@@ -44,11 +45,12 @@ STACK_BYTES = 8192
 
 
 class Line(NamedTuple):
-    """A line of `profile`: the thread's name and why the stack ends early, the addresses from the outermost inwards, and the
-    number of samples."""
+    """A line of `profile`: the thread's name and why the stack ends early, the addresses from the outermost inwards with the
+    number of samples, and what is said after the innermost one."""
 
     heads: tuple[str, ...]
     stack: Stack
+    marks: tuple[str, ...] = ()
 
 
 def say(line: str) -> None:
@@ -97,11 +99,12 @@ def line_of(text: str, biases: dict[str, int]) -> Line:
     found = LINE.fullmatch(text)
     if found is None:
         raise Refused(f"that is no line of profile: {text!r}")
-    heads, *rest = found[1].split(";")
+    name, *rest = found[1].split(";")
     frames = [FRAME.fullmatch(part) for part in rest]
     addresses = [(int(frame[2], 16) + biases.get(frame[1], 0)) % WORD for frame in frames if frame is not None]
-    reasons = [part for part, frame in zip(rest, frames) if frame is None]
-    return Line((heads, *reasons), Stack(tuple(addresses), int(found[2])))
+    inner = max((place + 1 for place, frame in enumerate(frames) if frame is not None), default=len(rest))
+    reasons = [part for part, frame in zip(rest[:inner], frames) if frame is None]
+    return Line((name, *reasons), Stack(tuple(addresses), int(found[2])), tuple(rest[inner:]))
 
 
 def told(program: str, words: list[str], part: Part, tables: Object) -> list[str]:
@@ -133,8 +136,8 @@ def counts_of(tables: Object, lines: list[Line]) -> Counts:
     names = Names(tables, {frame for _line, of_line in framed for frame in of_line}, [])
     counts = Counter[tuple[Name, ...]]()
     for line, of_line in framed:
-        heads = tuple(Name(clean(head)) for head in line.heads)
-        counts[(*heads, *(name for frame in of_line for name in names.of(frame)))] += line.stack.count
+        heads, marks = (tuple(Name(clean(part)) for part in parts) for parts in (line.heads, line.marks))
+        counts[(*heads, *(name for frame in of_line for name in names.of(frame)), *marks)] += line.stack.count
     return dict(counts)
 
 

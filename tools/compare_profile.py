@@ -55,7 +55,7 @@ class Process:
         return name, address
 
     def stack_of(self, text: str) -> Stack:
-        """A stack of the program, without why it is told no further."""
+        """A stack of the program, without what is told beside its frames."""
         name, *parts = text.split(";")
         texts = [part for part in parts if not part.startswith("[")]
         frames = [self.frame_of(part, place == len(texts) - 1) for place, part in enumerate(texts)]

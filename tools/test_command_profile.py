@@ -51,6 +51,7 @@ class Lines(unittest.TestCase):
             ("sh;a.so+0x10;b+0x2;0x7 12", Line(("sh",), Stack((0x1010, 0x2, 0x7), 12))),
             ("sh;[cut];b+0x2 1", Line(("sh", "[cut]"), Stack((2,), 1))),
             ("[unknown];[no registers] 3", Line(("[unknown]", "[no registers]"), Stack((), 3))),
+            ("sh;[cut];b+0x2;0x7;[popped] 4", Line(("sh", "[cut]"), Stack((2, 7), 4), ("[popped]",))),
         ):
             self.assertEqual(line_of(text, biases), expected)
         for text in ("", "sh", "sh;b+0x2 0"):
@@ -58,11 +59,13 @@ class Lines(unittest.TestCase):
                 line_of(text, biases)
 
     def test_names(self) -> None:
-        """Frames without a module have no name; a thread's name, and why a stack ends, do."""
-        lines = [Line(("sh", "[cut]"), Stack((5, 6), 2)), Line(("sh", "[cut]"), Stack((7, 8), 3)), Line(("a 1",), Stack((), 1))]
+        """Frames without a module have no name; a thread's name, why a stack ends, and what is said of its innermost frame do."""
+        lines = [Line(("sh", "[cut]"), Stack((5, 6), 2)), Line(("sh", "[cut]"), Stack((7, 8), 3)), Line(("a 1",), Stack((), 1)),
+                 Line(("sh",), Stack((5,), 4), ("[popped]",))]
         counts = counts_of({"regions": [], "modules": []}, lines)
         unknown = Name("[unknown]")
-        self.assertEqual(counts, {(Name("sh"), Name("[cut]"), unknown, unknown): 5, (Name("a_1"),): 1})
+        self.assertEqual(counts, {(Name("sh"), Name("[cut]"), unknown, unknown): 5, (Name("a_1"),): 1,
+                                  (Name("sh"), unknown, Name("[popped]")): 4})
 
 
 class Words(unittest.TestCase):
@@ -130,10 +133,10 @@ class Runs(unittest.TestCase):
     def test_frames_of_a_script(self) -> None:
         """The first frame of a sample was interrupted, and what stands in a frame's place is none."""
         lines = ["sh 1/2 0.000000001: 1 samples:", "\t0x10 b+0x10 (/b)", "\t0x1f b+0x1f (/b)", "\t0x0 [cut] ([unknown])", "",
-                 "sh 1/2 0.000000002: 1 samples:", "\t0x1f b+0x1f (/b)", ""]
+                 "sh 1/2 0.000000002: 1 samples:", "\t0x0 [popped] ([unknown])", "\t0x1f b+0x1f (/b)", ""]
         frames = script_frames({"regions": [], "modules": []}, lines)
         self.assertEqual({number: (frame.counter, frame.address) for number, frame in frames.items()},
-                         {1: (0x10, 0x10), 2: (0x20, 0x1f), 6: (0x1f, 0x1f)})
+                         {1: (0x10, 0x10), 2: (0x20, 0x1f), 7: (0x1f, 0x1f)})
 
     def test_what_fails_is_said_and_nothing_is_written(self) -> None:
         without = self.folder / "programs" / "none"

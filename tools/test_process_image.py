@@ -214,7 +214,8 @@ class CommandTest(unittest.TestCase):
         return done.returncode, (done.stderr.splitlines() or [""])[-1]
 
     def test_words(self) -> None:
-        for words in ((), ("x",), ("1", "2", "3"), ("--threads",), ("",)):
+        wrong = (("1", "--names"), ("x", "--names"), ("x", "y", "--names", "--strict"), ("x", "y", "--frame-pointers", "--names"))
+        for words in ((), ("x",), ("1", "2", "3"), ("--threads",), ("",), *wrong):
             with self.subTest(words):
                 self.assertEqual(self.said(*words)[0], 2)
 
@@ -234,6 +235,49 @@ class CommandTest(unittest.TestCase):
         status, line = self.said("4194305", BACKTRACE="/nonexistent/b", UNWIND_CLI="/nonexistent/u")
         self.assertEqual(status, 1)
         self.assertIn("/nonexistent/b isn't built: run `rt run < stdin` in crates/backtrace", line)
+        status, line = self.said("program", "core", "--names", CORE_STACKS="/nonexistent/c")
+        self.assertEqual(status, 1)
+        self.assertIn("/nonexistent/c isn't built: run `rt run` in crates/core_stacks", line)
+
+
+class NamesBySymbolsTest(unittest.TestCase):
+    """backtrace.sh with --names: what it prints by what core_stacks writes."""
+
+    REGISTERS = "sp=0x7 rbx=0x0 rbp=0x0 r12=0x0 r13=0x0 r14=0x0 r15=0x0"
+    LINES = (
+        "thread 0", f"frame 0 ra=0x10a {REGISTERS} raise+0xa in /lib/libc.so", f"frame 1 ra=0x201 {REGISTERS} in /bin/p+0x1201",
+        f"frame 2 ra=0x3 {REGISTERS}", f"frame 3 ra=0x0 {REGISTERS}", "end", "thread 1", "refused: frame limit",
+    )
+
+    def printed(self, lines: tuple[str, ...], status: int, *words: str) -> tuple[int, str, str]:
+        """The status and the two outputs of a run over a program that writes these lines of the core, and ends so."""
+        with tempfile.TemporaryDirectory() as folder:
+            program = pathlib.Path(folder) / "core_stacks"
+            said = "".join(f"echo '{line}'\n" for line in lines)
+            program.write_text(f'#!/bin/sh\n[ "$*" = "--names the core" ] || exit 9\n{said}exit {status}\n')
+            program.chmod(0o755)
+            done = subprocess.run(
+                [str(CommandTest.SCRIPT), "p", "the core", *words], capture_output=True, text=True, check=False,
+                env=dict(os.environ) | {"CORE_STACKS": str(program)},
+            )
+            return done.returncode, done.stdout, done.stderr
+
+    def test_the_first_thread(self) -> None:
+        first = "#0 0x10a in raise+0xa from /lib/libc.so\n#1 0x201 in /bin/p+0x1201\n#2 0x3 in ??\n"
+        self.assertEqual(self.printed(self.LINES, 0, "--names"), (0, first, ""))
+
+    def test_all_threads(self) -> None:
+        both = (
+            "Thread 1:\n#0 0x10a in raise+0xa from /lib/libc.so\n#1 0x201 in /bin/p+0x1201\n#2 0x3 in ??\n"
+            "\nThread 2:\nrefused: frame limit\n"
+        )
+        for words in (("--names", "--threads"), ("--threads", "--names")):
+            with self.subTest(words):
+                self.assertEqual(self.printed(self.LINES, 0, *words), (0, both, ""))
+
+    def test_no_core(self) -> None:
+        line = "refused: core header"
+        self.assertEqual(self.printed((line,), 8, "--names"), (8, "", f"{line}\n"))
 
 
 if __name__ == "__main__":
