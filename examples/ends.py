@@ -130,7 +130,7 @@ def take(trial: Trial, path: str) -> list[int]:
     name, *words = trial.program
     gdb = ["gdb", "-nx", "-batch", "-ex", "set breakpoint pending on", "-ix", SNAPSHOT, *trial.stop]
     bounds = ["-ex", "set backtrace past-main on", "-ex", "set backtrace past-entry on"]
-    shown = ["-ex", f"snapshot {path} {trial.options}", "-ex", "bt -frame-info location-and-address"]
+    shown = ["-ex", f"snapshot {path} --frame-tables {trial.options}", "-ex", "bt -frame-info location-and-address"]
     done = subprocess.run([*gdb, *bounds, *shown, "--args", f"{OUT}/{name}", *words], capture_output=True, text=True, check=False)
     if not os.path.exists(path):
         sys.exit(f"ends.py: no snapshot of {name}: {done.stdout[-400:]} {done.stderr[-400:]}")

@@ -37,7 +37,7 @@ for_all() {
 
 # By its frame table, and by its header.
 both_snapshots() {
-    in_gdb "${@:3}" -ex "snapshot $1.taken --limit 64 --module $1 $2" -ex "snapshot $1-by-header.taken --limit 64 --module $1 --header $2"
+    in_gdb "${@:3}" -ex "snapshot $1.taken --limit 64 --module $1 --frame-tables $2" -ex "snapshot $1-by-header.taken --limit 64 --module $1 $2"
 }
 
 # A process that gdb let go after its catch may have ended by itself.

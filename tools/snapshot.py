@@ -6,9 +6,9 @@
 
 (-ix reads the script before gdb stops the process; -x does as well, and the process waits meanwhile.)
 
-    snapshot FILE [--called | --interrupted] [--stack-bytes N] [--limit N] [--module NAME]... [--header]
+    snapshot FILE [--called | --interrupted] [--stack-bytes N] [--limit N] [--module NAME]... [--frame-tables]
                   [--exception WORD] [--class WORD] [--resume PAD RETURN]... [--languages]
-    snapshot DIR --threads [--stack-bytes N] [--limit N] [--module NAME]... [--header]
+    snapshot DIR --threads [--stack-bytes N] [--limit N] [--module NAME]... [--frame-tables]
 
 The registers are those of the selected thread's selected frame, which is its innermost one unless
 gdb was told otherwise; with --threads, those of each thread's innermost frame. docs/FORMATS.md says
@@ -50,9 +50,9 @@ REGISTERS = "rip rsp rax rbx rcx rdx rsi rdi rbp r8 r9 r10 r11 r12 r13 r14 r15".
 # and the process waits. In a deeper stack the outermost frame isn't known, and it is taken whole.
 MOST_FRAMES = 2048
 
-USAGE = """snapshot FILE [--called | --interrupted] [--stack-bytes N] [--limit N] [--module NAME]... [--header]
+USAGE = """snapshot FILE [--called | --interrupted] [--stack-bytes N] [--limit N] [--module NAME]... [--frame-tables]
                 [--exception WORD] [--class WORD] [--resume PAD RETURN]... [--languages]
-       snapshot DIR --threads [--stack-bytes N] [--limit N] [--module NAME]... [--header]"""
+       snapshot DIR --threads [--stack-bytes N] [--limit N] [--module NAME]... [--frame-tables]"""
 
 
 @dataclass(frozen=True)
@@ -454,7 +454,7 @@ def module_of(source: Source, process: Process, options: argparse.Namespace) -> 
         frame_table = elf.section_range(".eh_frame", bias)
         if frame_table is None:
             raise WithoutTable(code_objects(source, elf, bias))
-        header = elf.section_range(".eh_frame_hdr", bias) if options.header else None
+        header = None if options.frame_tables else elf.section_range(".eh_frame_hdr", bias)
         tables, build_id = elf.language_tables(bias), elf.build_id()
     cells = cells_of(frame_table) if options.exception is not None else []
     return Module(source.name, bias, build_id, code, frame_table, header, tables, cells)
@@ -722,7 +722,7 @@ def arguments() -> Arguments:
     parser.add_argument("--stack-bytes", type=size, metavar="N")
     parser.add_argument("--limit", type=states, default=MOST_STATES, metavar="N")
     parser.add_argument("--module", action="append", default=[], metavar="NAME")
-    parser.add_argument("--header", action="store_true")
+    parser.add_argument("--frame-tables", action="store_true")
     parser.add_argument("--exception", type=word, metavar="WORD")
     parser.add_argument("--class", type=word, metavar="WORD")
     parser.add_argument("--resume", type=word, nargs=2, action="append", default=[], metavar=("PAD", "RETURN"))
@@ -758,9 +758,9 @@ def write_snapshot(text: str) -> None:
 class SnapshotCommand(gdb.Command):
     """Write a snapshot of the selected frame, or of all threads, for unwind_cli.
 
-snapshot FILE [--called | --interrupted] [--stack-bytes N] [--limit N] [--module NAME]... [--header]
+snapshot FILE [--called | --interrupted] [--stack-bytes N] [--limit N] [--module NAME]... [--frame-tables]
               [--exception WORD] [--class WORD] [--resume PAD RETURN]... [--languages]
-snapshot DIR --threads [--stack-bytes N] [--limit N] [--module NAME]... [--header]
+snapshot DIR --threads [--stack-bytes N] [--limit N] [--module NAME]... [--frame-tables]
 
 --threads      write a folder: tables.json, and thread-ID.json for each thread (tools/join.py)
 --interrupted  the frame stands before its instruction; --called: it stands after a call. Without
@@ -769,7 +769,7 @@ snapshot DIR --threads [--stack-bytes N] [--limit N] [--module NAME]... [--heade
 --stack-bytes N  take so many bytes of the stack alone, from its pointer on
 --limit N      the most states of a walk (1048576)
 --module NAME  take this module, by its path or its file's name; without it all are taken
---header       let modules that have an .eh_frame_hdr name it in place of .eh_frame
+--frame-tables let modules name their .eh_frame also where they have an .eh_frame_hdr
 --exception, --class, --resume   what the snapshot says of a delivery
 --languages    also by which types handlers of C++ take the exception, and which routines are C++'s
                and of which runtime, for unwind_cli throw"""

@@ -1,5 +1,5 @@
 -- The worked example is read as what it holds.
-use Rattle.std.proofs.Common.{◌≡◌, ℕ, Some, None, refl}
+use Rattle.std.proofs.Common.{◌≡◌, Some, None, refl}
 use Rattle.memory_image.specs.Words.{u16_at, u32_at, u64_at}
 use Rattle.elf_symbols.specs.Functions.{function_at, table_of}
 use Rattle.elf_symbols.specs.Sample.{inner, outer, small_file, small_table}

@@ -1,5 +1,5 @@
 -- What a core's threads are walked over is laid out, and its modules are apart.
-use Rattle.std.proofs.Common.{◌≡◌, ◌-◌, ◌^◌, ◌<◌, List, [], ◌∷◌, Option, Some, None, refl, ap, arith, lit<}
+use Rattle.std.proofs.Common.{◌≡◌, ◌^◌, ◌<◌, List, [], ◌∷◌, Option, Some, None, refl, ap, arith, lit<}
 use Rattle.std.specs.Prelude.{is_none}
 use Rattle.memory_image.specs.Image.{Span, IsLaidOut, refusal}
 use Rattle.memory_image.specs.declared.errors.ImageError.{ImageError}

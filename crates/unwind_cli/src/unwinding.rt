@@ -9,20 +9,100 @@ ghost use Rattle.stack_snapshot.specs.Sampled.{sampled_space};
 ghost use Rattle.unwind_cli.specs.Due.{delivery_from, fold_from, thrown_from, walk_from};
 
 use folded_stacks::{FoldError, Folded, fold};
-use stack_deliver::{DeliverError, Delivery, Space, Visited, deliver, throw, walk};
+use stack_deliver::{
+    DeliverError, Delivery, FrameInfoKind, ModuleTables, Space, Visited, deliver, throw, walk,
+};
 use stack_snapshot::{SampledSnapshot, Snapshot, ThrownSnapshot};
 use std::alloc::{AllocError, Global};
 use unwind_arch::x86_64::{Context, RSP};
 
-/// The space of a snapshot, in which its modules are prepared where they can be. Nothing is
-/// answered otherwise over it.
-fn prepared_space(alloc: Global, snapshot: &Snapshot) -> Result<Space<'_>, AllocError>
+// Of less stack than this so many frames are searched for before modules are prepared: a real frame
+// takes some 64 bytes, and an index of a frame table costs as much as some 50 scans of it.
+const SHORT_STACK: usize = 8192;
+
+const FEW_FRAMES: u32 = 128;
+
+// And so many where a header is searched that is longer than the stack: a search costs as much as
+// the index of one description, for which a header has eight bytes.
+const FEW_BY_HEADER: u32 = 1024;
+
+/// How many bytes are mapped from the header on that the module of the start names, 0 where it
+/// names none.
+fn header_len(space: &Space<'_>, start: &Context) -> usize {
+    let Some(module) = space.module_at(start.ra) else {
+        return 0;
+    };
+    let ModuleTables::Elf(tables) = module.tables else {
+        return 0;
+    };
+    match tables.kind {
+        FrameInfoKind::EhFrame(_) => 0,
+        FrameInfoKind::EhFrameHdr(header) => space.image().bytes_from(header).len(),
+    }
+}
+
+/// How many frames of a stack are searched for before modules are prepared, none of a long one.
+fn searched_frames(space: &Space<'_>, start: &Context) -> u32 {
+    let stack = space.image().bytes_from(start.registers[RSP]).len();
+    if stack < header_len(space, start) {
+        FEW_BY_HEADER
+    } else if stack < SHORT_STACK {
+        FEW_FRAMES
+    } else {
+        0
+    }
+}
+
+/// The lesser of two numbers of frames.
+fn few_frames(searched: u32, limit: u32) -> u32
+    ensures { result ≤ limit }
+{
+    if limit < searched { limit } else { searched }
+}
+
+/// Whether a walk has more states than it may have.
+fn meets_limit(walked: &Result<Visited, DeliverError>) -> bool
+    ensures { result ≡ false → walked.now ≢ Err DeliverError.FrameLimit }
+{
+    match walked {
+        Err(DeliverError::FrameLimit) => true,
+        _ => false,
+    }
+}
+
+/// The states of a stack, where they are few, over a space as it is. `None` where they aren't, and
+/// of a long stack.
+fn few_states(
+    alloc: Global,
+    space: &Space<'_>,
+    start: &Context,
+    interrupted: bool,
+    limit: u32,
+) -> Option<Result<Visited, DeliverError>>
+    ensures { IfSome result (λ walked.
+        GivesUnlessNoMemory walked (line_of space.now limit start.now interrupted)) }
+{
+    let few = few_frames(searched_frames(space, start), limit);
+    let walked = walk(alloc, space, start, interrupted, few);
+    if meets_limit(&walked) {
+        return None;
+    }
+    Some(walked)
+}
+
+/// The space of a snapshot over which an exception is delivered. Its modules are prepared, where
+/// they can be, but not for a stack of few frames. Nothing is answered otherwise over it.
+fn delivery_space(alloc: Global, snapshot: &Snapshot) -> Result<Space<'_>, AllocError>
     ensures { IfOk result (λ space. (languages : Languages) (c : State) (exception : ℕ)
         (resumes : List (ℕ × ℕ)) (limit : ℕ) →
         delivery_through languages space c exception resumes limit ≡
         delivery_through languages (space_of snapshot.now) c exception resumes limit) }
 {
     let mut space = snapshot.space(alloc)?;
+    let start = snapshot.start();
+    if few_states(alloc, &space, &start, false, snapshot.limit()).is_some() {
+        return Ok(space);
+    }
     space.prepare()?;
     Ok(space)
 }
@@ -35,7 +115,7 @@ fn prepared_space(alloc: Global, snapshot: &Snapshot) -> Result<Space<'_>, Alloc
 pub fn deliver_snapshot(alloc: Global, snapshot: &Snapshot) -> Result<Delivery, DeliverError>
     ensures { GivesUnlessNoMemory result (delivery_from snapshot.now) }
 {
-    let space = prepared_space(alloc, snapshot)?;
+    let space = delivery_space(alloc, snapshot)?;
     let start = snapshot.start();
     deliver(
         alloc,
@@ -57,7 +137,7 @@ pub fn throw_snapshot(alloc: Global, thrown: &ThrownSnapshot) -> Result<Delivery
     ensures { GivesUnlessNoMemory result (thrown_from thrown.now) }
 {
     let snapshot = thrown.snapshot();
-    let space = prepared_space(alloc, snapshot)?;
+    let space = delivery_space(alloc, snapshot)?;
     let start = snapshot.start();
     throw(
         alloc,
@@ -68,63 +148,6 @@ pub fn throw_snapshot(alloc: Global, thrown: &ThrownSnapshot) -> Result<Delivery
         snapshot.resumes(),
         snapshot.limit(),
     )
-}
-
-// Less stack than this is short, and so many frames of it are searched for before modules are
-// prepared: a real frame takes some 64 bytes, and an index of a frame table costs as much as some 50
-// searches of it.
-const LONG_STACK: usize = 8192;
-
-const FEW_FRAMES: u32 = 128;
-
-/// Whether little stack is mapped from the stack pointer on.
-fn has_short_stack(space: &Space<'_>, start: &Context) -> bool {
-    let stack = space.image().bytes_from(start.registers[RSP]);
-    stack.len() < LONG_STACK
-}
-
-/// As many frames as are searched for, of so many.
-fn few_frames(limit: u32) -> u32
-    ensures { result ≤ limit }
-{
-    if limit < FEW_FRAMES {
-        limit
-    } else {
-        FEW_FRAMES
-    }
-}
-
-/// Whether a walk has more states than it may have.
-fn meets_limit(walked: &Result<Visited, DeliverError>) -> bool
-    ensures { result ≡ false → walked.now ≢ Err DeliverError.FrameLimit }
-{
-    match walked {
-        Err(DeliverError::FrameLimit) => true,
-        _ => false,
-    }
-}
-
-/// The states of a short stack, where they are few: over a space as it is, and so of a stack that
-/// loops too. `None` where they aren't.
-fn few_states(
-    alloc: Global,
-    space: &Space<'_>,
-    start: &Context,
-    interrupted: bool,
-    limit: u32,
-) -> Option<Result<Visited, DeliverError>>
-    ensures { IfSome result (λ walked.
-        GivesUnlessNoMemory walked (line_of space.now limit start.now interrupted)) }
-{
-    if !has_short_stack(space, start) {
-        return None;
-    }
-    let few = few_frames(limit);
-    let walked = walk(alloc, space, start, interrupted, few);
-    if meets_limit(&walked) {
-        return None;
-    }
-    Some(walked)
 }
 
 /// The states of a stack over a space whose modules are prepared first, where they can be.

@@ -1,4 +1,4 @@
-use Rattle.std.proofs.Common.{◌≡◌, ◌∙◌, ℕ, List, ◌∷◌, ◌++◌, map, Some, None, sym, ap}
+use Rattle.std.proofs.Common.{◌≡◌, ◌∙◌, ℕ, List, ◌∷◌, ◌++◌, map, Some, sym, ap}
 use Rattle.core_file.specs.MappedParts.{PartValue}
 use Rattle.core_file.specs.MappedViews.{part_of, parts_left}
 use Rattle.mapped_files.specs.Files.{front_of}

@@ -1,4 +1,4 @@
-use Rattle.std.proofs.Common.{◌≡◌, get_or, lit≤, lit<}
+use Rattle.std.proofs.Common.{◌≡◌, lit≤, lit<}
 use Rattle.std.proofs.lemmas.List.{get_or-take}
 use Rattle.memory_image.specs.Words.{u16_at, u32_at, u64_at, u16_at-take, u32_at-take, u64_at-take}
 use Rattle.elf_symbols.proofs.symbol.SymbolRecord.read.Goals as goal

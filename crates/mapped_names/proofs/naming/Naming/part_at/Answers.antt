@@ -1,4 +1,4 @@
-use Rattle.std.proofs.Common.{ℕ, List, Option, slice_get, ◌∙◌, sym, ap}
+use Rattle.std.proofs.Common.{List, Option, slice_get, ◌∙◌, sym, ap}
 use Rattle.std.specs.Option.{option_map}
 use Rattle.core_file.specs.declared.mapped.MappedPart.{MappedPart}
 use Rattle.core_file.specs.MappedViews.{part_of}

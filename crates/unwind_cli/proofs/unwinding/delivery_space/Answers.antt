@@ -3,7 +3,7 @@ use Rattle.stack_deliver.specs.StackDelivery.{delivery_through}
 use Rattle.stack_steps.specs.Modules.{SpaceValue}
 use Rattle.stack_steps.specs.Preparing.{with_indexes}
 use Rattle.delivery_laws.proofs.SameAnswers.{delivery_same}
-use Rattle.unwind_cli.proofs.unwinding.prepared_space.Goals as goal
+use Rattle.unwind_cli.proofs.unwinding.delivery_space.Goals as goal
 
 pub returns : goal.returns
 returns c = λ languages start exception resumes limit.
