@@ -20,8 +20,6 @@ mod part;
 mod section;
 mod symbol;
 mod symbols;
-#[cfg(test)]
-mod tests;
 
 pub use header::section_table;
 pub use part::FilePart;

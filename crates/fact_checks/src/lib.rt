@@ -18,8 +18,6 @@ mod said;
 mod samples;
 mod stretches;
 mod table;
-#[cfg(test)]
-mod tests;
 
 pub use auditing::{AuditError, audit};
 pub use facts::{ClaimedFacts, KnownRegister, KnownRegisters};

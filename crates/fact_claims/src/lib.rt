@@ -8,8 +8,6 @@ mod errors;
 mod lines;
 mod reading;
 mod said;
-#[cfg(test)]
-mod tests;
 
 pub use code::{ClaimedCode, read_code};
 pub use errors::ClaimsError;

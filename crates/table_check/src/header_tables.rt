@@ -109,56 +109,60 @@ impl ListedSoFar {
             IsListedSoFar (pairs_of pairs.now) frame (fdes ++ fde ∷ []) self.new }
     {
         if self.are_listed {
-            self.are_listed = self.lists_next(pairs, before, start, place);
+            self.are_listed = lists_next(&mut self.last_start, pairs, before, start, place);
         }
     }
+}
 
-    // Whether the pair at an index reads and starts above the last one, and the table has the pair of
-    // a start and a description's address: that one, or else it is found by halving.
-    fn lists_next(&mut self, pairs: &HdrTable<'_>, index: u64, start: u64, place: u64) -> bool
-        ensures yes { result ≡ true →
-            AreReadSoFar (pairs_of pairs.now) index self.old.last_start →
-            AreReadSoFar (pairs_of pairs.now) (index + 1) self.new.last_start
-            × ((read : List (ℕ × ℕ)) → AreRead (pairs_of pairs.now) read →
-            Contains read (start, place)) }
-        ensures no { result ≡ false →
-            AreReadSoFar (pairs_of pairs.now) index self.old.last_start →
-            index < (pairs_of pairs.now).count →
-            (read : List (ℕ × ℕ)) → AreRead (pairs_of pairs.now) read →
-            Contains read (start, place) → ⊥ }
-    {
-        let Some((first, found)) = self.next_pair(pairs, index) else {
-            return false;
-        };
-        if are_same(first, found, start, place) {
-            return true;
-        }
-        has_pair(pairs, start, place)
+// Whether the pair at an index reads and starts above the last one, and the table has the pair of a
+// start and a description's address: that one, or else it is found by halving.
+fn lists_next(
+    last_start: &mut Option<u64>,
+    pairs: &HdrTable<'_>,
+    index: u64,
+    start: u64,
+    place: u64,
+) -> bool
+    ensures yes { result ≡ true → AreReadSoFar (pairs_of pairs.now) index last_start.old →
+        AreReadSoFar (pairs_of pairs.now) (index + 1) last_start.new
+        × ((read : List (ℕ × ℕ)) → AreRead (pairs_of pairs.now) read →
+        Contains read (start, place)) }
+    ensures no { result ≡ false → AreReadSoFar (pairs_of pairs.now) index last_start.old →
+        index < (pairs_of pairs.now).count →
+        (read : List (ℕ × ℕ)) → AreRead (pairs_of pairs.now) read →
+        Contains read (start, place) → ⊥ }
+{
+    let Some((first, found)) = next_pair(last_start, pairs, index) else {
+        return false;
+    };
+    if are_same(first, found, start, place) {
+        return true;
     }
+    has_pair(pairs, start, place)
+}
 
-    // The pair at an index, where it reads and starts above the last one.
-    fn next_pair(&mut self, pairs: &HdrTable<'_>, index: u64) -> Option<(u64, u64)>
-        ensures { AreReadSoFar (pairs_of pairs.now) index self.old.last_start →
-            MatchOption result
-            (index < (pairs_of pairs.now).count →
-            (read : List (ℕ × ℕ)) → AreRead (pairs_of pairs.now) read → ⊥)
-            (λ pair. (index < (pairs_of pairs.now).count)
-            × (pair_at (pairs_of pairs.now) index ≡ Ok pair)
-            × AreReadSoFar (pairs_of pairs.now) (index + 1) self.new.last_start) }
-    {
-        if index >= pairs.len() {
-            return None;
-        }
-        let mut steps = Steps::new(NoLedger);
-        let Ok((start, place)) = pairs.entry(index, &mut steps) else {
-            return None;
-        };
-        if !is_above(start, self.last_start) {
-            return None;
-        }
-        self.last_start = Some(start);
-        Some((start, place))
+// The pair at an index, where it reads and starts above the last one.
+fn next_pair(last_start: &mut Option<u64>, pairs: &HdrTable<'_>, index: u64) -> Option<(u64, u64)>
+    ensures { AreReadSoFar (pairs_of pairs.now) index last_start.old →
+        MatchOption result
+        (index < (pairs_of pairs.now).count →
+        (read : List (ℕ × ℕ)) → AreRead (pairs_of pairs.now) read → ⊥)
+        (λ pair. (index < (pairs_of pairs.now).count)
+        × (pair_at (pairs_of pairs.now) index ≡ Ok pair)
+        × AreReadSoFar (pairs_of pairs.now) (index + 1) last_start.new) }
+{
+    if index >= pairs.len() {
+        return None;
     }
+    let mut steps = Steps::new(NoLedger);
+    let Ok((start, place)) = pairs.entry(index, &mut steps) else {
+        return None;
+    };
+    if !is_above(start, *last_start) {
+        return None;
+    }
+    *last_start = Some(start);
+    Some((start, place))
 }
 
 // Whether a start is above the last one, if there is one.

@@ -21,8 +21,6 @@ mod frame_rules;
 mod functions;
 mod header_tables;
 mod language;
-#[cfg(test)]
-mod language_tests;
 mod marks;
 mod programs;
 mod prologue;
@@ -30,8 +28,6 @@ mod ranges;
 mod reason;
 mod rows;
 mod running;
-#[cfg(test)]
-mod tests;
 mod verdict;
 
 pub use claims::{AddressRange, ClaimStep, ClaimedSite, ClaimedStep, Claims};

@@ -1,5 +1,5 @@
 //! Worked examples of images, registers, encoded pointers, expressions, rows, frame tables, their
-//! headers and their indexes, and tables that compilers made, as tests. There is nothing here to call.
+//! headers and their indexes, symbols, and tables that compilers made, as tests. There is nothing here to call.
 #![tactic(auto)]
 
 #[cfg(test)]
@@ -26,5 +26,7 @@ mod profiles;
 mod registers;
 #[cfg(test)]
 mod rows;
+#[cfg(test)]
+mod symbols;
 #[cfg(test)]
 mod tables;

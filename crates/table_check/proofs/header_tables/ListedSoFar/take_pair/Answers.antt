@@ -10,7 +10,7 @@ pub returns-then-self : goal.returns-then-self
 returns-then-self c frame fdes fde many pair was =
     let t = pairs_of c.args.pairs.now in
     let next = c.lists_next-self in
-    let later : ListedSoFar = record { last_start = next.new.self.last_start; are_listed = next.result } in
+    let later : ListedSoFar = record { last_start = next.new.last_start; are_listed = next.result } in
     let read_so_far = subst (λ n. AreReadSoFar t n c.args.self.now.last_start) many (was.yes c.if-self.true).0 in
     listed_next t frame fdes c.args.self.now was fde later c.if-self.true
     (λ is. let has = next.ensures.yes is read_so_far in (

@@ -1,13 +1,10 @@
 //! Three functions, two of which have language tables, and what is claimed of them.
 
-use crate::claims::{ClaimStep, Claims};
-use crate::reason::Reason;
-use crate::verdict::{Verdict, check};
-use eh_frame::Register;
-use fde_finders::{FrameInfo, FrameInfoKind};
 use memory_image::MemoryImage;
 use std::alloc::{AllocError, Global};
-use unwinding_frames::EhAction;
+use table_check::{
+    ClaimStep, Claims, EhAction, FrameInfo, FrameInfoKind, Reason, Register, Verdict, check,
+};
 
 const RBX: Register = Register(3);
 

@@ -1,6 +1,6 @@
 // A file of an assembler and its symbols, against `readelf -sSW`.
 
-use super::*;
+use elf_symbols::{FilePart, SymbolParts, Symbols, section_table, symbol_parts};
 use std::process::Abort;
 
 /// What GNU as 2.40 writes of ten symbols, of which `outer`, `spare` and `start` are names of one function,

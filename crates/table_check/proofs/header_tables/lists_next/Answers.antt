@@ -4,7 +4,7 @@ use Rattle.std.proofs.lemmas.Bool.{and_parts, eqb-true}
 use Rattle.unwind_definitions.specs.Header.{pair_at}
 use Rattle.eh_frame.specs.HeaderViews.{pairs_of}
 use Rattle.table_check.proofs.Ascending.{starts_there}
-use Rattle.table_check.proofs.header_tables.ListedSoFar.lists_next.Goals as goal
+use Rattle.table_check.proofs.header_tables.lists_next.Goals as goal
 
 pub returns-then-are_same-clause-yes : goal.returns-then-are_same-clause-yes
 returns-then-are_same-clause-yes c is so_far =

@@ -1,7 +1,5 @@
 // Claims of a function that pushes RBX, from JSON to lines.
-use crate::code::read_code;
-use crate::errors::ClaimsError;
-use crate::lines::{audit_report, refused_line};
+use fact_claims::{ClaimsError, audit_report, read_code, refused_line};
 use stack_snapshot::{Field, SnapshotError};
 use std::alloc::Global;
 

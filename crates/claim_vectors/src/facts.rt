@@ -1,14 +1,12 @@
 //! What is claimed of a function that pushes RBX.
 
-use crate::auditing::{AuditError, audit};
-use crate::facts::{ClaimedFacts, KnownRegister, KnownRegisters};
-use crate::rows::Mismatch;
-use crate::said::{SaidCfa, SaidRule};
-use crate::stretches::Difference;
-use eh_frame::Register;
-use fde_finders::{FrameInfo, FrameInfoKind};
+use fact_checks::{
+    AuditError, ClaimedFacts, Difference, KnownRegister, KnownRegisters, Mismatch, SaidCfa,
+    SaidRule, audit,
+};
 use memory_image::MemoryImage;
 use std::alloc::Global;
+use table_check::{FrameInfo, FrameInfoKind, Register};
 
 // A CIE, the FDE of a function of 16 bytes at 0x401000 that pushes RBX, and the end of the list.
 const PUSH_RBX: &[u8] =

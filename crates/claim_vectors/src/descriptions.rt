@@ -1,14 +1,11 @@
 //! Functions that push RBX, and what is claimed of them.
 
-use crate::claims::{ClaimStep, Claims};
-use crate::descriptions::describes_code;
-use crate::entries::first_refused_entry;
-use crate::reason::{Reason, refusal_of_claims};
-use crate::verdict::{Verdict, check};
-use eh_frame::{Bases, EhFrame, Fde, Register, RowWalk};
-use fde_finders::{FrameInfo, FrameInfoKind};
 use memory_image::MemoryImage;
 use std::alloc::{AllocError, Global};
+use table_check::{
+    ClaimStep, Claims, FrameInfo, FrameInfoKind, Reason, Register, Verdict, check,
+    refusal_of_claims,
+};
 
 const RBX: Register = Register(3);
 
@@ -31,36 +28,6 @@ fn pushing(alloc: Global, register: Register) -> Result<Claims, AllocError> {
     Ok(claims)
 }
 
-// Whether its description says so, once it is known to be a function.
-fn is_described(image: &MemoryImage<'_>, claims: &Claims, fde: &Fde<'_>, bases: &Bases) -> bool {
-    if refusal_of_claims(claims, 0x40_1000, 0x40_1010).is_some() || claims.claims.is_empty() {
-        return false;
-    }
-    let claim = &claims.claims[0];
-    if claim.start != fde.initial_address() || claim.end - claim.start != fde.len() {
-        return false;
-    }
-    describes_code(image, claim, fde, bases, &mut RowWalk::new())
-}
-
-// Whether the function at 0x401000 that pushes a register is described by what pushes RBX.
-fn pushes(alloc: Global, register: Register) -> Result<bool, AllocError> {
-    let bases = Bases::default();
-    let frames = EhFrame::new(PUSH_RBX, 0x50_0000);
-    let claims = pushing(alloc, register)?;
-    match frames.fde_at(&bases, 24) {
-        Ok(fde) => Ok(is_described(&MemoryImage::new(alloc), &claims, &fde, &bases)),
-        Err(_) => Ok(false),
-    }
-}
-
-#[test]
-fn rows_are_those_of_a_push(rt: HostRuntime) -> Result<(), AllocError> {
-    assert!(rt; pushes(rt.alloc(), RBX)?);
-    assert!(rt; !pushes(rt.alloc(), R12)?);
-    Ok(())
-}
-
 // Why a claim is refused that pushes a register, in a module that ends at an address.
 fn refusal(alloc: Global, register: Register, end: u64) -> Result<Option<Reason>, AllocError> {
     let claims = pushing(alloc, register)?;
@@ -73,18 +40,6 @@ fn claims_are_refused(rt: HostRuntime) -> Result<(), AllocError> {
     assert!(rt; refusal(rt.alloc(), RSI, 0x40_1010)? == Some(Reason::Claim(0)));
     assert!(rt; refusal(rt.alloc(), RBX, 0x40_100f)? == Some(Reason::Range(0)));
     Ok(())
-}
-
-// The first entry of a table that is refused.
-fn refused_entry(table: &[u8]) -> Option<u64> {
-    first_refused_entry(&EhFrame::new(table, 0x50_0000), table, &Bases::default())
-}
-
-#[test]
-fn entries_are_refused(rt: HostRuntime) {
-    assert!(rt; refused_entry(PUSH_RBX).is_none());
-    assert!(rt; refused_entry(&PUSH_RBX[..47]) == Some(24));
-    assert!(rt; refused_entry(b"\xff\xff\xff\xff\x04\x00\x00\x00\x00\x00\x00\x00") == Some(0));
 }
 
 const TABLE: u64 = 0x50_0000;
@@ -120,6 +75,16 @@ fn verdict(
 // The same without a header.
 fn verdict_on(alloc: Global, table: &[u8], claims: &mut Claims) -> Option<Verdict> {
     verdict(alloc, table, b"\x00", FrameInfoKind::EhFrame(TABLE), claims)
+}
+
+#[test]
+fn entries_are_refused(rt: HostRuntime) {
+    let mut none = Claims::new(rt.alloc());
+    let first = Some(Verdict::No(Reason::Entry(0)));
+    let longest = b"\xff\xff\xff\xff\x04\x00\x00\x00\x00\x00\x00\x00";
+    assert!(rt; verdict_on(rt.alloc(), longest, &mut none) == first);
+    let second = Some(Verdict::No(Reason::Entry(24)));
+    assert!(rt; verdict_on(rt.alloc(), &PUSH_RBX[..47], &mut none) == second);
 }
 
 #[test]
