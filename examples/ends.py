@@ -130,6 +130,7 @@ def take(trial: Trial, path: str) -> list[int]:
     name, *words = trial.program
     gdb = ["gdb", "-nx", "-batch", "-ex", "set breakpoint pending on", "-ix", SNAPSHOT, *trial.stop]
     bounds = ["-ex", "set backtrace past-main on", "-ex", "set backtrace past-entry on"]
+    # The trials damage frame tables, which a search by a header would pass by.
     shown = ["-ex", f"snapshot {path} --frame-tables {trial.options}", "-ex", "bt -frame-info location-and-address"]
     done = subprocess.run([*gdb, *bounds, *shown, "--args", f"{OUT}/{name}", *words], capture_output=True, text=True, check=False)
     if not os.path.exists(path):

@@ -36,7 +36,7 @@ class StepsCommand(gdb.Command):
         for number in range(int(count)):
             if is_in_program(gdb.newest_frame()):
                 file = f"{folder}/{number}"
-                gdb.execute(f"snapshot {file}.json --limit 64 --module {module}", to_string=True)
+                gdb.execute(f"snapshot {file}.json --limit 64 --frame-tables --module {module}", to_string=True)
                 with open(f"{file}.frames", "w", encoding="ascii") as frames:
                     frames.write(gdb.execute("frames --program", to_string=True))
             step_on()

@@ -65,7 +65,7 @@ stop_of() {
 take_stop() {
     local told
     begin "$1"
-    told=$(in_gdb -ex "$(stop_of "$1")" -ex "snapshot $1.taken --limit 64 $4" -ex "frames $5")
+    told=$(in_gdb -ex "$(stop_of "$1")" -ex "snapshot $1.taken --limit 64 --frame-tables $4" -ex "frames $5")
     for_all "$1" "$2"
     of_report <<< "$told" > "../$3"
     end

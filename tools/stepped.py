@@ -244,7 +244,7 @@ def tables_of(images: list[ImageFile], options: str = "--interrupted") -> Object
     module = os.path.basename(gdb.current_progspace().filename)
     with tempfile.TemporaryDirectory() as folder:
         file = os.path.join(folder, "snapshot.json")
-        gdb.execute(f"snapshot {file} {options} --limit 64 --stack-bytes 8 --module {module}", to_string=True)
+        gdb.execute(f"snapshot {file} {options} --limit 64 --stack-bytes 8 --frame-tables --module {module}", to_string=True)
         found = read_snapshot(file)
     pointer = int(found["start"]["rsp"], 16)
     regions = [region for region in regions_of(found) if not region.start <= pointer < region.end]

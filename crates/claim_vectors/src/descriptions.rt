@@ -81,8 +81,8 @@ fn verdict_on(alloc: Global, table: &[u8], claims: &mut Claims) -> Option<Verdic
 fn entries_are_refused(rt: HostRuntime) {
     let mut none = Claims::new(rt.alloc());
     let first = Some(Verdict::No(Reason::Entry(0)));
-    let longest = b"\xff\xff\xff\xff\x04\x00\x00\x00\x00\x00\x00\x00";
-    assert!(rt; verdict_on(rt.alloc(), longest, &mut none) == first);
+    let cut_long = b"\xff\xff\xff\xff\x04\x00\x00\x00\x00\x00\x00\x00";
+    assert!(rt; verdict_on(rt.alloc(), cut_long, &mut none) == first);
     let second = Some(Verdict::No(Reason::Entry(24)));
     assert!(rt; verdict_on(rt.alloc(), &PUSH_RBX[..47], &mut none) == second);
 }

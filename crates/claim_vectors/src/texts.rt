@@ -1,4 +1,4 @@
-// Claims of a function that pushes RBX, from JSON to lines.
+//! Claims of a function that pushes RBX, from JSON to lines.
 use fact_claims::{ClaimsError, audit_report, read_code, refused_line};
 use stack_snapshot::{Field, SnapshotError};
 use std::alloc::Global;

@@ -1,5 +1,6 @@
 //! Worked examples of images, registers, encoded pointers, expressions, rows, frame tables, their
-//! headers and their indexes, symbols, and tables that compilers made, as tests. There is nothing here to call.
+//! headers and their indexes, symbols, and tables that compilers made, as tests. There is nothing
+//! here to call.
 #![tactic(auto)]
 
 #[cfg(test)]

@@ -1,10 +1,11 @@
-// A file of an assembler and its symbols, against `readelf -sSW`.
+//! A file of an assembler and its symbols, against `readelf -sSW`.
 
 use elf_symbols::{FilePart, SymbolParts, Symbols, section_table, symbol_parts};
 use std::process::Abort;
 
-/// What GNU as 2.40 writes of ten symbols, of which `outer`, `spare` and `start` are names of one function,
-/// `inner` lies in it, `elsewhere` is undefined, `label` has no size and `number` is no function.
+/// What GNU as 2.40 writes of ten symbols, of which `outer`, `spare` and `start` are names of one
+/// function, `inner` lies in it, `elsewhere` is undefined, `label` has no size and `number` is no
+/// function.
 const FILE: [u8; 944] = *b"\
     \x7fELF\x02\x01\x01\x03\x00\x00\x00\x00\x00\x00\x00\x00\x01\x00>\x00\x01\x00\x00\x00\
     \x00\x00\x00\x00\x00\x00\x00\x00\x00\x00\x00\x00\x00\x00\x00\x00\xf0\x01\x00\x00\x00\x00\x00\x00\

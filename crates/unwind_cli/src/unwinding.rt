@@ -17,13 +17,14 @@ use std::alloc::{AllocError, Global};
 use unwind_arch::x86_64::{Context, RSP};
 
 // Of less stack than this so many frames are searched for before modules are prepared: a real frame
-// takes some 64 bytes, and an index of a frame table costs as much as some 50 scans of it.
+// takes some 64 bytes, and an index of a frame table costs as much as some 40 scans of it.
 const SHORT_STACK: usize = 8192;
 
 const FEW_FRAMES: u32 = 128;
 
-// And so many where a header is searched that is longer than the stack: a search costs as much as
-// the index of one description, for which a header has eight bytes.
+// And so many where the header is longer than the stack: a search costs as much as the index of one
+// description, for which a header has eight bytes, and a frame takes no fewer of the stack. A stack
+// that loops has more frames than that.
 const FEW_BY_HEADER: u32 = 1024;
 
 /// How many bytes are mapped from the header on that the module of the start names, 0 where it
@@ -100,11 +101,14 @@ fn delivery_space(alloc: Global, snapshot: &Snapshot) -> Result<Space<'_>, Alloc
 {
     let mut space = snapshot.space(alloc)?;
     let start = snapshot.start();
-    if few_states(alloc, &space, &start, false, snapshot.limit()).is_some() {
-        return Ok(space);
+    match few_states(alloc, &space, &start, false, snapshot.limit()) {
+        Some(Err(DeliverError::NoMemory)) => Err(AllocError),
+        Some(_) => Ok(space),
+        None => {
+            space.prepare()?;
+            Ok(space)
+        }
     }
-    space.prepare()?;
-    Ok(space)
 }
 
 /// What is delivered of a snapshot.
@@ -164,7 +168,7 @@ fn prepared_states(
     walk(alloc, space, start, interrupted, limit)
 }
 
-/// The states of a snapshot's stack. Modules are prepared where it isn't short, or has many states.
+/// The states of a snapshot's stack. Modules are prepared where it is long, or has many states.
 ///
 /// # Errors
 ///
