@@ -41,7 +41,8 @@ steps() {
 lengths() {
     name=$1
     shift
-    few=10
+    # so many that the modules are prepared, as over longer stacks
+    few=600
     limit=10003
     walk_few=$(measure walk "$few" "$limit" "$@")
     search_few=$(measure deliver "$few" "$limit" "$@" uncaught)
@@ -73,10 +74,10 @@ lengths 'calls of functions of their own, each with its module and its landing p
 # The resume table: what a cleanup costs by the number of entries.
 for kind in same other; do
     for entries in 0 100 10000 100000; do
-        few=$(measure deliver 10 1003 "$kind" "$entries")
+        few=$(measure deliver 600 1003 "$kind" "$entries")
         many=$(measure deliver 1000 1003 "$kind" "$entries")
         expect 'outcome installed' 1000
         printf '%6d more entries (%s): %d, a frame with its cleanup %d\n' \
-            "$entries" "$kind" "$many" $(((many - few) / 990))
+            "$entries" "$kind" "$many" $(((many - few) / 400))
     done
 done
