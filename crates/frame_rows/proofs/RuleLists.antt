@@ -2,14 +2,13 @@
 use Rattle.std.proofs.Common.{◌≡◌, ◌≢◌, ℕ, zero, suc, ◌+◌, ◌^◌, ◌<◌, ◌≤◌, Bool, true, false, cond, List, [], ◌∷◌, length, length-set, set, map, get_or, Option, Some, None, Result, Ok, Err, refl, sym, ap, ◌∙◌, subst, arith, eq-eqb}
 use Rattle.std.specs.Prelude.{is_some, nat_lt, ◌==◌}
 use Rattle.std.specs.List.{insert, remove, refill}
-use Rattle.std.proofs.lemmas.Bool.{lt-ltb, le-ltb, ltb-true, ltb-false, eqb-true, eqb-false}
+use Rattle.std.proofs.lemmas.Bool.{lt-ltb, ltb-true, ltb-false, eqb-true, eqb-false}
 use Rattle.arrayvec.proofs.ArrayVecLemmas.{items-with_items}
 use Rattle.unwind_definitions.specs.Instructions.{Rule}
 use Rattle.std.proofs.lemmas.List.{length-map, map-set}
 use Rattle.std.proofs.Math.ListN.{get_or-map}
 use Rattle.unwind_arch.specs.declared.register.Register.{Register}
 use Rattle.frame_rows.specs.declared.rule.RegisterRule.{RegisterRule}
-use Rattle.frame_rows.specs.declared.rule.RegisterRule.TheVariants as rules
 use Rattle.frame_rows.specs.Rules.{entry_of, rule_meaning, rule_in, find_in, with_rule, AscendsFrom, is_room}
 
 pub ascends_weaker : (low low' : ℕ) (es : List (ℕ × Rule)) → low' ≤ low → AscendsFrom low es → AscendsFrom low' es

@@ -2,12 +2,14 @@
 use Rattle.std.specs.Prelude.{ℕ, List, Ok}
 use Rattle.unwind_definitions.specs.Faults.{◌>>=◌}
 use Rattle.unwind_definitions.specs.Input.{Reads, split, uleb, sleb}
-use Rattle.unwind_definitions.specs.Instructions.{Instruction, Nop, Remember, Restore, Advance, SetLocation, Write, Reset, Cfa, CfaColumn, CfaOffset, CfaExpression, Arguments, Coding, data_units, row_creation, cfa_definition, offset_rule, register_rule, row_state, unknown}
+use Rattle.unwind_definitions.specs.Instructions.{Instruction, Offset, Nop, Remember, Restore, Advance, SetLocation, Write, Reset, Cfa, CfaColumn, CfaOffset, CfaExpression, Arguments, Coding, data_units, row_creation, cfa_definition, offset_rule, register_rule, row_state, unknown}
 use Rattle.encoded_pointers.specs.PointerViews.{bases_of}
 use Rattle.frame_rows.specs.Rules.{rule_meaning}
 use Rattle.frame_rows.specs.declared.coding.Coding.{Coding as CodeCoding}
 use Rattle.frame_rows.specs.declared.instruction.CallFrameInstruction.{CallFrameInstruction}
 use Rattle.frame_rows.specs.declared.instruction.CallFrameInstruction.TheVariants as coded
+use Rattle.frame_rows.specs.declared.instruction.ShortInstruction.{ShortInstruction}
+use Rattle.frame_rows.specs.declared.instruction.ShortInstruction.TheVariants as short
 
 abbrev pub meaning : CallFrameInstruction → Instruction
 meaning coded.Nop = Nop
@@ -22,6 +24,12 @@ meaning (coded.DefineCfaRegister register) = CfaColumn register.0
 meaning (coded.DefineCfaOffset offset) = CfaOffset offset
 meaning (coded.DefineCfaExpression bytes) = CfaExpression bytes.now
 meaning (coded.SetArgumentSize size) = Arguments size
+
+abbrev pub short_meaning : ShortInstruction → Instruction
+short_meaning short.Nop = Nop
+short_meaning (short.Advance delta) = Advance delta
+short_meaning (short.Save register offset) = Write register.0 (Offset offset)
+short_meaning (short.DefineCfaOffset offset) = CfaOffset offset
 
 abbrev pub coding_in : CodeCoding → Coding
 coding_in c = record { code_factor = c.code_factor; data_factor = c.data_factor; address = c.address.0; bases = bases_of c.bases.now }

@@ -2,11 +2,12 @@
 
 ghost use Rattle.std.specs.Prelude.{◌≡◌, ◌*◌, IfSome, Ok};
 ghost use Rattle.unwind_definitions.specs.Instructions.{Coding as Operands, instruction};
-ghost use Rattle.unwind_definitions.specs.Instructions.{Advance, CfaOffset, Offset, Write};
+ghost use Rattle.unwind_definitions.specs.Instructions.{Advance, Write};
 ghost use Rattle.unwind_definitions.specs.Pointers.{direct};
 ghost use Rattle.encoded_pointers.specs.Readers.{GivesOr};
 ghost use Rattle.encoded_pointers.specs.CursorViews.{at};
-ghost use Rattle.frame_rows.specs.InstructionViews.{meaning, coding_in, unsigned_offset};
+ghost use Rattle.frame_rows.specs.InstructionViews.{meaning, short_meaning};
+ghost use Rattle.frame_rows.specs.InstructionViews.{coding_in, unsigned_offset};
 ghost use Rattle.frame_rows.specs.InstructionViews.{signed_offset, block};
 ghost use Rattle.frame_rows.specs.InstructionViews.{operation_read, cfa_read, offset_read};
 ghost use Rattle.frame_rows.specs.InstructionViews.{rule_read, state_read};
@@ -44,11 +45,15 @@ pub(crate) enum CallFrameInstruction<'a> {
     SetArgumentSize(u64),
 }
 
-/// A register, and where the word that it had is kept, as an offset from the CFA.
+/// An instruction that takes two words: of these most programs consist.
 #[derive(Clone, Copy)]
-pub(crate) struct SavedRegister {
-    pub(crate) register: Register,
-    pub(crate) offset: u64,
+pub(crate) enum ShortInstruction {
+    Nop,
+    /// Raises the location.
+    Advance(u64),
+    /// Says where the word that a register had is kept, as an offset from the CFA.
+    Save { register: Register, offset: u64 },
+    DefineCfaOffset(u64),
 }
 
 #[inline(always)]
@@ -303,50 +308,34 @@ pub(crate) fn read_instruction<'a>(
     }
 }
 
-/// The offset that the next instruction gives the CFA, where it is `DW_CFA_def_cfa_offset`, as most
-/// are. Else the cursor is unspecified.
-#[tactic(auto, unfolding(crate::specs::InstructionViews::operation_read, crate::specs::InstructionViews::cfa_read, unwind_definitions::specs::Instructions::instruction_of))]
+/// The next instruction, where it is one of those that most programs consist of: `DW_CFA_nop`,
+/// `DW_CFA_def_cfa_offset`, `DW_CFA_offset`, or `DW_CFA_advance_loc` by a word. Else the cursor is
+/// unspecified.
+#[tactic(auto, unfolding(crate::specs::InstructionViews::operation_read, crate::specs::InstructionViews::cfa_read, crate::specs::InstructionViews::offset_read, crate::specs::InstructionViews::rule_read, crate::specs::InstructionViews::state_read, unwind_definitions::specs::Instructions::instruction_of))]
 #[inline(always)]
-pub(crate) fn read_cfa_offset(input: &mut Cursor<'_>) -> Option<u64>
-    ensures { (coding : Operands) → IfSome result (λ offset.
-        instruction coding (at input.old) ≡ Ok (CfaOffset offset, at input.new)) }
+pub(crate) fn read_short(input: &mut Cursor<'_>, coding: Coding) -> Option<ShortInstruction>
+    ensures { IfSome result (λ short. instruction (coding_in coding.entry) (at input.old) ≡
+        Ok (short_meaning short, at input.new)) }
 {
-    match input.read_u8() {
-        Ok(DW_CFA_DEF_CFA_OFFSET) => input.read_uleb128().ok(),
+    let byte = input.read_u8().ok()?;
+    let low = byte % 64;
+    match byte / 64 {
+        DW_CFA_ADVANCE_LOC => {
+            let delta = u64::from(low).checked_mul(coding.code_factor)?;
+            Some(ShortInstruction::Advance(delta))
+        }
+        DW_CFA_OFFSET => {
+            let register = Register(low as u16);
+            let offset = read_offset(input, coding).ok()?;
+            Some(ShortInstruction::Save { register, offset })
+        }
+        0 => match low {
+            DW_CFA_DEF_CFA_OFFSET => {
+                Some(ShortInstruction::DefineCfaOffset(input.read_uleb128().ok()?))
+            }
+            DW_CFA_NOP => Some(ShortInstruction::Nop),
+            _ => None,
+        },
         _ => None,
     }
-}
-
-/// By how much the next instruction raises the location, where it is `DW_CFA_advance_loc` and that
-/// is a word. Else the cursor is unspecified.
-#[tactic(auto, unfolding(unwind_definitions::specs::Instructions::instruction_of))]
-#[inline(always)]
-pub(crate) fn read_advance(input: &mut Cursor<'_>, coding: Coding) -> Option<u64>
-    ensures { IfSome result (λ delta. instruction (coding_in coding.entry) (at input.old) ≡
-        Ok (Advance delta, at input.new)) }
-{
-    let byte = input.read_u8().ok()?;
-    if byte / 64 != DW_CFA_ADVANCE_LOC {
-        return None;
-    }
-    u64::from(byte % 64).checked_mul(coding.code_factor)
-}
-
-/// The register that the next instruction says is saved, where it is `DW_CFA_offset`. Else the cursor
-/// is unspecified.
-#[tactic(auto, unfolding(unwind_definitions::specs::Instructions::instruction_of))]
-#[inline(always)]
-pub(crate) fn read_saved(input: &mut Cursor<'_>, coding: Coding) -> Option<SavedRegister>
-    ensures { IfSome result (λ saved. instruction (coding_in coding.entry) (at input.old) ≡
-        Ok (Write saved.register.0 (Offset saved.offset), at input.new)) }
-{
-    let byte = input.read_u8().ok()?;
-    if byte / 64 != DW_CFA_OFFSET {
-        return None;
-    }
-    let offset = read_offset(input, coding).ok()?;
-    Some(SavedRegister {
-        register: Register((byte % 64) as u16),
-        offset,
-    })
 }

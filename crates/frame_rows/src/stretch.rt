@@ -2,10 +2,9 @@
 
 ghost use Rattle.std.specs.Prelude.{◌≡◌, ◌<◌, ℕ, IfOk, IfSome, List, None};
 ghost use Rattle.unwind_definitions.specs.Instructions.{Coding as Operands, program};
-ghost use Rattle.unwind_definitions.specs.Instructions.{Advance, CfaOffset, Offset, Write};
 ghost use Rattle.unwind_definitions.specs.Row.{RowInstructions};
 ghost use Rattle.encoded_pointers.specs.CursorViews.{at};
-ghost use Rattle.frame_rows.specs.InstructionViews.{coding_in, meaning};
+ghost use Rattle.frame_rows.specs.InstructionViews.{coding_in, meaning, short_meaning};
 ghost use Rattle.frame_rows.specs.KeptRows.{Kept};
 ghost use Rattle.frame_rows.specs.Running.{Represents};
 ghost use Rattle.frame_rows.specs.SameRules.{KnowsRows};
@@ -14,10 +13,7 @@ ghost use Rattle.frame_rows.specs.Stretches.{BeginsWith, IsReadMoving, MovesOn};
 ghost use Rattle.frame_rows.specs.Turns.{IsNoEnd, Moves, TurnMoves, Turns, TurnsFewer};
 
 use crate::coding::Coding;
-use crate::instruction::{
-    CallFrameInstruction, SavedRegister, read_advance, read_cfa_offset, read_instruction,
-    read_saved,
-};
+use crate::instruction::{CallFrameInstruction, ShortInstruction, read_instruction, read_short};
 use crate::machine::Machine;
 use crate::rule::RegisterRule;
 use encoded_pointers::Cursor;
@@ -72,11 +68,11 @@ impl<'a> Instructions<'a> {
         Ok(Some(instruction))
     }
 
-    // The offset that the next instruction gives the CFA, where it does that alone. It is then read.
+    // The next instruction, where it is one of those that most programs consist of. It is then read.
     #[inline(always)]
-    fn next_cfa_offset(&mut self) -> Option<u64>
-        ensures reads { (coding : Operands) → IfSome result (λ offset.
-            BeginsWith (left_of coding self.old) (CfaOffset offset) (left_of coding self.new)) }
+    fn next_short(&mut self, coding: Coding) -> Option<ShortInstruction>
+        ensures reads { let coding = coding_in coding.entry in IfSome result (λ short.
+            BeginsWith (left_of coding self.old) (short_meaning short) (left_of coding self.new)) }
         ensures fewer { IfSome result (λ _. self.new.left < self.old.left) }
         ensures none { result ≡ None → self.new ≡ self.old }
         ensures moving { self.new.sets_location ≡ self.old.sets_location }
@@ -85,51 +81,10 @@ impl<'a> Instructions<'a> {
             return None;
         }
         let mut rest = self.input;
-        let offset = read_cfa_offset(&mut rest)?;
+        let short = read_short(&mut rest, coding)?;
         self.input = rest;
         self.left -= 1;
-        Some(offset)
-    }
-
-    // By how much the next instruction raises the location, where it is a short one that does so. It
-    // is then read.
-    #[inline(always)]
-    fn next_advance(&mut self, coding: Coding) -> Option<u64>
-        ensures reads { let coding = coding_in coding.entry in IfSome result (λ delta.
-            BeginsWith (left_of coding self.old) (Advance delta) (left_of coding self.new)) }
-        ensures fewer { IfSome result (λ _. self.new.left < self.old.left) }
-        ensures none { result ≡ None → self.new ≡ self.old }
-        ensures moving { self.new.sets_location ≡ self.old.sets_location }
-    {
-        if self.left == 0 {
-            return None;
-        }
-        let mut rest = self.input;
-        let delta = read_advance(&mut rest, coding)?;
-        self.input = rest;
-        self.left -= 1;
-        Some(delta)
-    }
-
-    // The register that the next instruction says is saved, where it is a short one that does so. It
-    // is then read.
-    #[inline(always)]
-    fn next_saved(&mut self, coding: Coding) -> Option<SavedRegister>
-        ensures reads { let coding = coding_in coding.entry in IfSome result (λ saved.
-            BeginsWith (left_of coding self.old) (Write saved.register.0 (Offset saved.offset))
-            (left_of coding self.new)) }
-        ensures fewer { IfSome result (λ _. self.new.left < self.old.left) }
-        ensures none { result ≡ None → self.new ≡ self.old }
-        ensures moving { self.new.sets_location ≡ self.old.sets_location }
-    {
-        if self.left == 0 {
-            return None;
-        }
-        let mut rest = self.input;
-        let saved = read_saved(&mut rest, coding)?;
-        self.input = rest;
-        self.left -= 1;
-        Some(saved)
+        Some(short)
     }
 }
 
@@ -170,8 +125,8 @@ pub(crate) fn run_stretch<'a>(
     }
 }
 
-// Reads an instruction, and runs it unless it leads on. The three that most programs consist of are
-// told apart by their first bytes, and aren't built. After a fault the machine is unspecified.
+// Reads an instruction, and runs it unless it leads on. Those that most programs consist of are told
+// apart by their first bytes, and take two words. After a fault the machine is unspecified.
 #[inline(always)]
 fn take_turn<'a>(
     machine: &mut Machine<'a>,
@@ -188,22 +143,11 @@ fn take_turn<'a>(
         instructions.new.sets_location (left_of coding instructions.new) }
     ensures rows { (rows : List Kept) → KnowsRows rows machine.old → KnowsRows rows machine.new }
 {
-    if let Some(offset) = instructions.next_cfa_offset() {
-        machine.set_cfa_offset(offset)?;
-        return Ok(Turn::Ran);
-    }
-    if let Some(delta) = instructions.next_advance(coding) {
-        return move_by(
-            machine,
-            CallFrameInstruction::AdvanceLocation(u128::from(delta)),
-        );
-    }
-    if let Some(saved) = instructions.next_saved(coding) {
-        return save(machine, saved);
+    if let Some(short) = instructions.next_short(coding) {
+        return run_short(machine, short);
     }
     match instructions.next(coding)? {
         None => Ok(Turn::Ended),
-        Some(CallFrameInstruction::Nop) => Ok(Turn::Ran),
         Some(instruction) => move_by(machine, instruction),
     }
 }
@@ -226,14 +170,24 @@ fn move_by<'a>(
     Ok(Turn::Ran)
 }
 
-// Notes that a register is saved.
+// Runs one of the instructions that most programs consist of, unless it leads on.
 #[inline(always)]
-fn save<'a>(machine: &mut Machine<'a>, saved: SavedRegister) -> Result<Turn, Error>
+fn run_short<'a>(machine: &mut Machine<'a>, short: ShortInstruction) -> Result<Turn, Error>
     ensures moves { (start : ℕ) (run : RowInstructions) → Represents start machine.old run →
-        Moves start run (Write saved.register.0 (Offset saved.offset)) result machine.new }
+        Moves start run (short_meaning short) result machine.new }
     ensures some { IsNoEnd result }
     ensures rows { (rows : List Kept) → KnowsRows rows machine.old → KnowsRows rows machine.new }
 {
-    machine.set_rule(saved.register, RegisterRule::Offset(saved.offset))?;
+    match short {
+        ShortInstruction::Nop => {}
+        ShortInstruction::Advance(delta) => {
+            let delta = u128::from(delta);
+            return move_by(machine, CallFrameInstruction::AdvanceLocation(delta));
+        }
+        ShortInstruction::Save { register, offset } => {
+            machine.set_rule(register, RegisterRule::Offset(offset))?;
+        }
+        ShortInstruction::DefineCfaOffset(offset) => machine.set_cfa_offset(offset)?,
+    }
     Ok(Turn::Ran)
 }
