@@ -33,7 +33,7 @@ class Texts(unittest.TestCase):
 
     def test_few_crates_have_edits_that_the_gate_tries(self) -> None:
         tried = [crate.name for crate in sorted((TOP / "crates").iterdir()) if (crate / "must-fail").is_dir()]
-        self.assertLess(len(tried), 10)
+        self.assertLessEqual(len(tried), 4)
         self.assertTrue(all(edits_of(TOP / "crates" / name) for name in tried))
 
 
