@@ -4,6 +4,7 @@
 ghost use Rattle.std.specs.Prelude.{Some, None, ◌==◌};
 ghost use Rattle.std.specs.Prelude.{if◌then◌else◌};
 
+use crate::asserting::expect_equal;
 use frame_expressions::*;
 use memory_image::{ImageError, MemoryImage};
 use std::alloc::Global;
@@ -134,13 +135,6 @@ static CONSTANTS: [Case; 15] = [
     (&[0x4f], None, Ok(0x1f)),
 ];
 
-#[test]
-fn numbers_in_the_bytes(rt: HostRuntime) -> Result<(), ImageError> {
-    let image = memory(rt.alloc())?;
-    agree(&rt, &image, &CONSTANTS);
-    Ok(())
-}
-
 // dup, drop, over, pick, swap and rot, each folded to one word that tells their order.
 static STACK: [Case; 7] = [
     (&[0x35, 0x37, 0x3b, 0x12, 0x1c, 0x1e], None, Ok(0x0)),
@@ -159,13 +153,6 @@ static STACK: [Case; 7] = [
         Err(EvalError::Table(Error::PopWithEmptyStack)),
     ),
 ];
-
-#[test]
-fn words_on_the_stack(rt: HostRuntime) -> Result<(), ImageError> {
-    let image = memory(rt.alloc())?;
-    agree(&rt, &image, &STACK);
-    Ok(())
-}
 
 // Signed and unsigned arithmetic, logic and shifts.
 static ARITHMETIC: [Case; 22] = [
@@ -247,13 +234,6 @@ static ARITHMETIC: [Case; 22] = [
     ),
 ];
 
-#[test]
-fn arithmetic_wraps(rt: HostRuntime) -> Result<(), ImageError> {
-    let image = memory(rt.alloc())?;
-    agree(&rt, &image, &ARITHMETIC);
-    Ok(())
-}
-
 // Comparisons of -1 and 1, and of 5 and 5.
 static COMPARISONS: [Case; 10] = [
     (&[0x35, 0x35, 0x29], None, Ok(0x1)),
@@ -267,13 +247,6 @@ static COMPARISONS: [Case; 10] = [
     (&[0x31, 0x09, 0xff, 0x2d], None, Ok(0x0)),
     (&[0x35, 0x35, 0x2e], None, Ok(0x0)),
 ];
-
-#[test]
-fn comparisons_are_signed(rt: HostRuntime) -> Result<(), ImageError> {
-    let image = memory(rt.alloc())?;
-    agree(&rt, &image, &COMPARISONS);
-    Ok(())
-}
 
 // Registers by short and long numbers, those that the machine lacks, and one past 65535.
 static OFFSETS: [Case; 7] = [
@@ -297,13 +270,6 @@ static OFFSETS: [Case; 7] = [
         Err(EvalError::Table(Error::UnsupportedRegister)),
     ),
 ];
-
-#[test]
-fn registers_with_offsets(rt: HostRuntime) -> Result<(), ImageError> {
-    let image = memory(rt.alloc())?;
-    agree(&rt, &image, &OFFSETS);
-    Ok(())
-}
 
 // Words and numbers of 1 to 8 bytes, across two regions and where a byte is missing.
 static MEMORY: [Case; 10] = [
@@ -330,13 +296,6 @@ static MEMORY: [Case; 10] = [
         Err(EvalError::Table(Error::UnknownOperation)),
     ),
 ];
-
-#[test]
-fn numbers_in_memory(rt: HostRuntime) -> Result<(), ImageError> {
-    let image = memory(rt.alloc())?;
-    agree(&rt, &image, &MEMORY);
-    Ok(())
-}
 
 // Branches on and back, to the end, out of the bytes, and for ever.
 static BRANCHES: [Case; 10] = [
@@ -371,13 +330,6 @@ static BRANCHES: [Case; 10] = [
         Err(EvalError::Table(Error::TooManyOperations)),
     ),
 ];
-
-#[test]
-fn branches_stay_within(rt: HostRuntime) -> Result<(), ImageError> {
-    let image = memory(rt.alloc())?;
-    agree(&rt, &image, &BRANCHES);
-    Ok(())
-}
 
 // The first fault is reported.
 static FAULTS: [Case; 13] = [
@@ -449,9 +401,20 @@ static FAULTS: [Case; 13] = [
 ];
 
 #[test]
-fn first_faults(rt: HostRuntime) -> Result<(), ImageError> {
+fn expressions_have_their_values(rt: HostRuntime) -> Result<(), ImageError> {
     let image = memory(rt.alloc())?;
-    agree(&rt, &image, &FAULTS);
+    for cases in [
+        CONSTANTS.as_slice(),
+        STACK.as_slice(),
+        ARITHMETIC.as_slice(),
+        COMPARISONS.as_slice(),
+        OFFSETS.as_slice(),
+        MEMORY.as_slice(),
+        BRANCHES.as_slice(),
+        FAULTS.as_slice(),
+    ] {
+        agree(&rt, &image, cases);
+    }
     Ok(())
 }
 
@@ -460,25 +423,21 @@ fn first_faults(rt: HostRuntime) -> Result<(), ImageError> {
 #[test]
 fn a_saved_register(rt: HostRuntime) {
     let image = MemoryImage::new(rt.alloc());
-    let expression = [0x23, 0x08];
-    assert_eq!(rt;
-        evaluate(&expression, Some(0x7010), &REGISTERS, &image),
-        Ok(0x7018)
-    );
-    assert_eq!(rt;
-        evaluate(&expression, None, &REGISTERS, &image),
-        Err(EvalError::Table(Error::PopWithEmptyStack))
-    );
+    let none = Err(EvalError::Table(Error::PopWithEmptyStack));
+    for (initial, wanted) in [(Some(0x7010), Ok(0x7018)), (None, none)] {
+        let found = evaluate(&[0x23, 0x08], initial, &REGISTERS, &image);
+        expect_equal(&rt, found, wanted);
+    }
 }
 
 #[test]
 fn sixty_four_words(rt: HostRuntime) {
     let image = MemoryImage::new(rt.alloc());
-    assert_eq!(rt; evaluate(&[0x31; 64], None, &REGISTERS, &image), Ok(1));
-    assert_eq!(rt;
-        evaluate(&[0x31; 64], Some(5), &REGISTERS, &image),
-        Err(EvalError::Table(Error::StackFull))
-    );
+    let full = Err(EvalError::Table(Error::StackFull));
+    for (initial, wanted) in [(None, Ok(1)), (Some(5), full)] {
+        let found = evaluate(&[0x31; 64], initial, &REGISTERS, &image);
+        expect_equal(&rt, found, wanted);
+    }
 }
 
 // A turn of this loop takes six operations and counts down by one. The expression has eight bytes,
@@ -488,12 +447,9 @@ fn the_last_operation_is_done(rt: HostRuntime) {
     let image = MemoryImage::new(rt.alloc());
     // lit1, minus, nop, nop, dup, bra -8
     let expression = [0x31, 0x1c, 0x96, 0x96, 0x12, 0x28, 0xf8, 0xff];
-    assert_eq!(rt;
-        evaluate(&expression, Some(1668), &REGISTERS, &image),
-        Ok(0)
-    );
-    assert_eq!(rt;
-        evaluate(&expression, Some(1669), &REGISTERS, &image),
-        Err(EvalError::Table(Error::TooManyOperations))
-    );
+    let many = Err(EvalError::Table(Error::TooManyOperations));
+    for (initial, wanted) in [(1668, Ok(0)), (1669, many)] {
+        let found = evaluate(&expression, Some(initial), &REGISTERS, &image);
+        expect_equal(&rt, found, wanted);
+    }
 }

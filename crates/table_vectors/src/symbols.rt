@@ -1,5 +1,6 @@
 //! A file of an assembler and its symbols, against `readelf -sSW`.
 
+use crate::asserting::expect_equal;
 use elf_symbols::{FilePart, SymbolParts, Symbols, section_table, symbol_parts};
 use std::process::Abort;
 
@@ -68,32 +69,27 @@ fn asked(rt: &impl Abort, address: u64) -> Option<(&'static [u8], u64)> {
 
 #[test]
 fn functions_by_their_addresses(rt: HostRuntime) {
-    let outer = Some((b"outer".as_slice(), 0));
-    assert_eq!(rt; asked(&rt, 0), outer);
-    assert_eq!(rt; asked(&rt, 5), outer);
-    assert_eq!(rt; asked(&rt, 6), Some((b"inner".as_slice(), 6)));
-    assert_eq!(rt; asked(&rt, 7), Some((b"inner".as_slice(), 6)));
-    assert_eq!(rt; asked(&rt, 8), outer);
-    assert_eq!(rt; asked(&rt, 9), Some((b"chosen".as_slice(), 9)));
-    assert_eq!(rt; asked(&rt, 10), None);
-    assert_eq!(rt; asked(&rt, 11), Some((b"weak_one".as_slice(), 11)));
-    assert_eq!(rt; asked(&rt, 12), None);
+    for (address, function) in [
+        (0, Some((b"outer".as_slice(), 0))),
+        (5, Some((b"outer".as_slice(), 0))),
+        (6, Some((b"inner".as_slice(), 6))),
+        (7, Some((b"inner".as_slice(), 6))),
+        (8, Some((b"outer".as_slice(), 0))),
+        (9, Some((b"chosen".as_slice(), 9))),
+        (10, None),
+        (11, Some((b"weak_one".as_slice(), 11))),
+        (12, None),
+    ] {
+        expect_equal(&rt, asked(&rt, address), function);
+    }
 }
 
 #[test]
 fn parts_of_the_file(rt: HostRuntime) {
-    let sections = section_table(&FILE);
-    assert_eq!(rt;
-        sections,
-        Some(FilePart {
-            offset: 0x1f0,
-            size: 448
-        })
-    );
-    let parts = symbol_parts(bytes_of(FilePart {
+    let sections = FilePart {
         offset: 0x1f0,
         size: 448,
-    }));
+    };
     let symbols = FilePart {
         offset: 0x50,
         size: 0x108,
@@ -102,7 +98,14 @@ fn parts_of_the_file(rt: HostRuntime) {
         offset: 0x158,
         size: 0x4a,
     };
-    assert_eq!(rt; parts, Some(SymbolParts { symbols, strings }));
-    assert_eq!(rt; section_table(&FILE[..63]), None);
-    assert_eq!(rt; symbol_parts(&FILE[0x1f0..0x1f0 + 256]), None);
+    let parts = SymbolParts { symbols, strings };
+    for (file, part) in [(FILE.as_slice(), Some(sections)), (&FILE[..63], None)] {
+        expect_equal(&rt, section_table(file), part);
+    }
+    for (headers, part) in [
+        (bytes_of(sections), Some(parts)),
+        (&FILE[0x1f0..0x1f0 + 256], None),
+    ] {
+        expect_equal(&rt, symbol_parts(headers), part);
+    }
 }
