@@ -1,7 +1,11 @@
-//! Unwinds the snapshots that a debugger took of live programs, and prints each report. The snapshots
-//! lie where the program runs; examples/README.md says how they and the expected lines were made.
+//! Unwinds the snapshots that a debugger took of live programs, and prints each report; then audits claims
+//! of real files' code. The snapshots lie where the program runs; examples/README.md says how they and the
+//! expected lines were made.
 #![tactic(auto)]
 
+mod audits;
+
+use crate::audits::print_audits;
 use anyhow::{Result, bail};
 use stack_deliver::{Space, deliver, throw, walk};
 use stack_report::{Report, report_of, walk_report_of};
@@ -206,5 +210,5 @@ fn main(rt: HostRuntime) -> Result<()> {
     for name in THROWS {
         print_throw(&rt, name)?;
     }
-    Ok(())
+    print_audits(&rt)
 }

@@ -1,13 +1,11 @@
-//! Audits claims of what is known of real files' code, and prints where their frame tables don't say it. The
-//! claims lie where the program runs; docs/AUDITS.md says how they and the expected lines were made.
-#![tactic(auto)]
-
+// Audits of claims of what is known of real files' code: where their frame tables don't say it. The claims
+// lie where the program runs; docs/AUDITS.md says how they and the expected lines were made.
 use anyhow::Result;
 use fact_claims::{audit_report, read_code};
 use std::{fs, str};
 
 /// The claims of some functions of Debian 12's C library, of gcc's run-time library and of bash.
-const FILES: [&str; 3] = ["libc.json", "libgcc.json", "bash.json"];
+const FILES: [&str; 3] = ["libc.claims", "libgcc.claims", "bash.claims"];
 
 /// Prints the file's name and what the audit of its claims finds.
 fn print_audit(rt: &HostRuntime, name: &str) -> Result<()> {
@@ -20,9 +18,10 @@ fn print_audit(rt: &HostRuntime, name: &str) -> Result<()> {
     Ok(())
 }
 
-fn main(rt: HostRuntime) -> Result<()> {
+/// Prints the audits of all files.
+pub fn print_audits(rt: &HostRuntime) -> Result<()> {
     for name in FILES {
-        print_audit(&rt, name)?;
+        print_audit(rt, name)?;
     }
     Ok(())
 }
