@@ -9,6 +9,9 @@ use crate::line::Line;
 use std::alloc::{AllocError, Global};
 use std::marker::Model;
 
+// What a state's line takes whose numbers are four addresses and four that are small.
+const LINE_LEN: usize = 128;
+
 /// Lines of text, each of which ends with a line feed. Contracts see their bytes.
 #[derive(Drop)]
 pub struct Report {
@@ -31,6 +34,19 @@ impl Report {
         Report {
             bytes: Vec::new(alloc),
         }
+    }
+
+    /// No text, with memory for so many lines of usual length, so that it doesn't grow line by line.
+    ///
+    /// # Errors
+    ///
+    /// `AllocError` where memory ran out.
+    pub(crate) fn with_lines(alloc: Global, lines: usize) -> Result<Report, AllocError>
+        ensures { IfOk result (λ report. report ≡ []) }
+    {
+        Ok(Report {
+            bytes: Vec::with_capacity(alloc, lines.saturating_mul(LINE_LEN))?,
+        })
     }
 
     /// Lets go of the text, and keeps its memory for another one.

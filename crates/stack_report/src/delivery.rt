@@ -73,7 +73,9 @@ fn put_cleanups(report: &mut Report, room: &Room) -> Result<(), AllocError>
 pub fn report_of(alloc: Global, delivery: &Delivery) -> Result<Report, AllocError>
     ensures { IfOk result (λ report. report ≡ report_of delivery.now) }
 {
-    let mut report = Report::new(alloc);
+    let room = delivery.room();
+    let lines = room.visited_len().saturating_add(room.trail_len());
+    let mut report = Report::with_lines(alloc, lines)?;
     put_frames(&mut report, delivery.room())?;
     put_cleanups(&mut report, delivery.room())?;
     if let Some(state) = delivery.landing() {

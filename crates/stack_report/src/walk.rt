@@ -27,7 +27,7 @@ impl Report {
 pub fn walk_report_of(alloc: Global, visited: &Visited) -> Result<Report, AllocError>
     ensures { IfOk result (λ report. report ≡ walk_report_of visited.now) }
 {
-    let mut report = Report::new(alloc);
+    let mut report = Report::with_lines(alloc, visited.len())?;
     report.put_walk(visited.room())?;
     Ok(report)
 }
