@@ -62,6 +62,13 @@ impl Model for Snapshot {
 }
 
 impl Snapshot {
+    /// The modules, in the order in which they were listed.
+    pub fn modules(&self) -> &[Module]
+        ensures { result.now ≡ self.now.modules }
+    {
+        &self.modules
+    }
+
     /// The registers from which the stack is unwound.
     pub fn start(&self) -> Context
         ensures { result ≡ self.now.start }

@@ -9,8 +9,10 @@ ghost use Rattle.stack_snapshot.specs.Sampled.{sampled_space};
 ghost use Rattle.unwind_cli.specs.Due.{delivery_from, fold_from, thrown_from, walk_from};
 
 use folded_stacks::{FoldError, Folded, fold};
+use memory_image::MemoryImage;
 use stack_deliver::{
-    DeliverError, Delivery, FrameInfoKind, ModuleTables, Space, Visited, deliver, throw, walk,
+    DeliverError, Delivery, FrameInfoKind, Module, ModuleTables, Space, Visited, deliver, throw,
+    walk,
 };
 use stack_snapshot::{SampledSnapshot, Snapshot, ThrownSnapshot};
 use std::alloc::{AllocError, Global};
@@ -20,12 +22,56 @@ use unwind_arch::x86_64::{Context, RSP};
 // takes some 64 bytes, and an index of a frame table costs as much as some 40 scans of it.
 const SHORT_STACK: usize = 8192;
 
-const FEW_FRAMES: u32 = 128;
+const FEW_FRAMES: usize = 128;
 
 // And so many where the header is longer than the stack: a search costs as much as the index of one
-// description, for which a header has eight bytes, and a frame takes no fewer of the stack. A stack
-// that loops has more frames than that.
-const FEW_BY_HEADER: u32 = 1024;
+// description, for which a header has eight bytes, and a frame takes no fewer of the stack.
+const FEW_BY_HEADER: usize = 1024;
+
+// What a frame takes of the stack at least: its return address.
+const LEAST_FRAME: usize = 8;
+
+// An index costs as much for a description as two searches for a frame. A description takes some 32
+// bytes of its table and a real frame some 64 of the stack, so a table costs as much as a search for
+// each frame of a stack four times as long.
+const STACK_BY_TABLE: usize = 4;
+
+// A header has eight bytes for a description.
+const TABLE_BY_HEADER: usize = 4;
+
+// How often a frame is searched for where modules aren't prepared: by a walk, and by a delivery that
+// counts the frames, searches for a handler and goes to a frame's cleanup and on from there.
+const BY_WALK: usize = 1;
+
+const BY_DELIVERY: usize = 4;
+
+/// How many bytes the frame table has that a module names, by what is mapped from there on or from
+/// its header on. 0 where it names neither.
+fn table_len(image: &MemoryImage<'_>, module: &Module) -> usize {
+    let ModuleTables::Elf(tables) = module.tables else {
+        return 0;
+    };
+    match tables.kind {
+        FrameInfoKind::EhFrame(table) => image.bytes_from(table).len(),
+        FrameInfoKind::EhFrameHdr(header) => {
+            let len = image.bytes_from(header).len();
+            len.saturating_mul(TABLE_BY_HEADER)
+        }
+    }
+}
+
+/// Whether the frame tables of modules have fewer bytes together than this.
+fn are_shorter(image: &MemoryImage<'_>, modules: &[Module], bytes: usize) -> bool {
+    let mut left = bytes;
+    for module in modules {
+        let len = table_len(image, module);
+        if left <= len {
+            return false;
+        }
+        left -= len;
+    }
+    true
+}
 
 /// How many bytes are mapped from the header on that the module of the start names, 0 where it
 /// names none.
@@ -42,15 +88,25 @@ fn header_len(space: &Space<'_>, start: &Context) -> usize {
     }
 }
 
-/// How many frames of a stack are searched for before modules are prepared, none of a long one.
-fn searched_frames(space: &Space<'_>, start: &Context) -> u32 {
-    let stack = space.image().bytes_from(start.registers[RSP]).len();
-    if stack < header_len(space, start) {
-        FEW_BY_HEADER
-    } else if stack < SHORT_STACK {
-        FEW_FRAMES
-    } else {
+/// How many frames of a snapshot's stack are searched for before modules are prepared, where each is
+/// searched for so often: none of a stack that is long, or where the tables are short beside it. They
+/// are no more than the stack has room for: only one that loops has more.
+fn searched_frames(space: &Space<'_>, snapshot: &Snapshot, searches: usize) -> u32 {
+    let image = space.image();
+    let start = snapshot.start();
+    let stack = image.bytes_from(start.registers[RSP]).len();
+    let most = stack / LEAST_FRAME + 1;
+    if stack < header_len(space, &start) {
+        return most.min(FEW_BY_HEADER) as u32;
+    }
+    if stack >= SHORT_STACK {
+        return 0;
+    }
+    let bytes = stack.saturating_mul(searches) / STACK_BY_TABLE;
+    if are_shorter(image, snapshot.modules(), bytes) {
         0
+    } else {
+        most.min(FEW_FRAMES) as u32
     }
 }
 
@@ -71,20 +127,25 @@ fn meets_limit(walked: &Result<Visited, DeliverError>) -> bool
     }
 }
 
-/// The states of a stack, where they are few, over a space as it is. `None` where they aren't, and
-/// of a long stack.
+/// The states of a snapshot's stack, where they are few, over its space as it is. `None` where they
+/// aren't, and of a stack of which none are searched for.
 fn few_states(
     alloc: Global,
     space: &Space<'_>,
-    start: &Context,
+    snapshot: &Snapshot,
     interrupted: bool,
-    limit: u32,
+    searches: usize,
 ) -> Option<Result<Visited, DeliverError>>
-    ensures { IfSome result (λ walked.
-        GivesUnlessNoMemory walked (line_of space.now limit start.now interrupted)) }
+    ensures { IfSome result (λ walked. GivesUnlessNoMemory walked
+        (line_of space.now snapshot.now.limit snapshot.now.start interrupted)) }
 {
-    let few = few_frames(searched_frames(space, start), limit);
-    let walked = walk(alloc, space, start, interrupted, few);
+    let searched = searched_frames(space, snapshot, searches);
+    if searched == 0 {
+        return None;
+    }
+    let start = snapshot.start();
+    let few = few_frames(searched, snapshot.limit());
+    let walked = walk(alloc, space, &start, interrupted, few);
     if meets_limit(&walked) {
         return None;
     }
@@ -100,8 +161,7 @@ fn delivery_space(alloc: Global, snapshot: &Snapshot) -> Result<Space<'_>, Alloc
         delivery_through languages (space_of snapshot.now) c exception resumes limit) }
 {
     let mut space = snapshot.space(alloc)?;
-    let start = snapshot.start();
-    match few_states(alloc, &space, &start, false, snapshot.limit()) {
+    match few_states(alloc, &space, snapshot, false, BY_DELIVERY) {
         Some(Err(DeliverError::NoMemory)) => Err(AllocError),
         Some(_) => Ok(space),
         None => {
@@ -168,7 +228,8 @@ fn prepared_states(
     walk(alloc, space, start, interrupted, limit)
 }
 
-/// The states of a snapshot's stack. Modules are prepared where it is long, or has many states.
+/// The states of a snapshot's stack. Modules are prepared where it is long, longer than their tables,
+/// or has many states.
 ///
 /// # Errors
 ///
@@ -177,12 +238,12 @@ pub fn walk_snapshot(alloc: Global, snapshot: &Snapshot) -> Result<Visited, Deli
     ensures { GivesUnlessNoMemory result (walk_from snapshot.now) }
 {
     let mut space = snapshot.space(alloc)?;
-    let start = snapshot.start();
     let interrupted = snapshot.interrupted();
-    let limit = snapshot.limit();
-    if let Some(walked) = few_states(alloc, &space, &start, interrupted, limit) {
+    if let Some(walked) = few_states(alloc, &space, snapshot, interrupted, BY_WALK) {
         return walked;
     }
+    let start = snapshot.start();
+    let limit = snapshot.limit();
     prepared_states(alloc, &mut space, &start, interrupted, limit)
 }
 

@@ -11,8 +11,8 @@ pub returns-in-Some : goal.returns-in-Some
 unfolding walk_from
 returns-in-Some c =
     let s = c.args.snapshot.now in
-    let same : line_of (space_of s) c.limit-limit.result c.start-start.result c.interrupted-interrupted.result ≡ walk_from s = rw (c.start-start.ensures, c.interrupted-interrupted.ensures, c.limit-limit.ensures) refl in
-    let is = ap (λ (space : SpaceValue). line_of space c.limit-limit.result c.start-start.result c.interrupted-interrupted.result) c.in_ok-space.ensures ∙ same in
+    let same : line_of (space_of s) s.limit s.start c.interrupted-interrupted.result ≡ walk_from s = rw c.interrupted-interrupted.ensures refl in
+    let is = ap (λ (space : SpaceValue). line_of space s.limit s.start c.interrupted-interrupted.result) c.in_ok-space.ensures ∙ same in
     subst (λ (due : Result (List Context) DeliverError). GivesUnlessNoMemory c.in-Some.walked due) is c.in-Some.ensures
 
 pub returns : goal.returns
