@@ -41,16 +41,19 @@ steps() {
 lengths() {
     name=$1
     shift
-    # so many that the modules are prepared, as over longer stacks
+    # so many that each run prepares the modules, as over longer stacks
     few=600
     limit=10003
-    walk_few=$(measure walk "$few" "$limit" "$@")
-    search_few=$(measure deliver "$few" "$limit" "$@" uncaught)
-    deliver_few=$(measure deliver "$few" "$limit" "$@")
     echo "$name"
     printf '%8s %13s %8s %13s %8s %13s %8s %10s\n' \
         cleanups walked a-frame searched a-frame delivered a-frame a-cleanup
-    printf '%8d %13d %8s %13d %8s %13d\n' $few "$walk_few" - "$search_few" - "$deliver_few"
+    # the costs from which those of a frame are counted are the last ones
+    for count in 10 $few; do
+        walk_few=$(measure walk "$count" "$limit" "$@")
+        search_few=$(measure deliver "$count" "$limit" "$@" uncaught)
+        deliver_few=$(measure deliver "$count" "$limit" "$@")
+        printf '%8d %13d %8s %13d %8s %13d\n' "$count" "$walk_few" - "$search_few" - "$deliver_few"
+    done
     for count in 1000 10000; do
         walked=$(measure walk "$count" "$limit" "$@")
         expect end 0
