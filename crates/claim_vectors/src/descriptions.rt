@@ -9,8 +9,6 @@ use table_check::{
 
 const RBX: Register = Register(3);
 
-const R12: Register = Register(12);
-
 const RSI: Register = Register(4);
 
 // A CIE, the FDE of a function of 16 bytes that pushes RBX, and the end of the list.
@@ -85,21 +83,6 @@ fn entries_are_refused(rt: HostRuntime) {
     assert!(rt; verdict_on(rt.alloc(), cut_long, &mut none) == first);
     let second = Some(Verdict::No(Reason::Entry(24)));
     assert!(rt; verdict_on(rt.alloc(), &PUSH_RBX[..47], &mut none) == second);
-}
-
-#[test]
-fn a_push_is_described(rt: HostRuntime) -> Result<(), AllocError> {
-    let mut rbx = pushing(rt.alloc(), RBX)?;
-    assert!(rt; verdict_on(rt.alloc(), PUSH_RBX, &mut rbx) == Some(Verdict::Yes));
-    let mut r12 = pushing(rt.alloc(), R12)?;
-    assert!(rt;
-        verdict_on(rt.alloc(), PUSH_RBX, &mut r12) == Some(Verdict::No(Reason::Program(0)))
-    );
-    let mut none = Claims::new(rt.alloc());
-    assert!(rt; verdict_on(rt.alloc(), PUSH_RBX, &mut none) == Some(Verdict::Yes));
-    let unmapped = FrameInfoKind::EhFrame(0x70_0000);
-    assert!(rt; verdict(rt.alloc(), PUSH_RBX, b"\x00", unmapped, &mut none) == Some(Verdict::Yes));
-    Ok(())
 }
 
 #[test]

@@ -1,10 +1,7 @@
-// Headers of frame tables, by themselves and under a walk.
+// Headers of frame tables.
 use crate::asserting::expect_equal;
 use memory_image::{Counted, MemoryImage, Steps};
-use stack_deliver::{Context, FrameInfo, FrameInfoKind, Space, walk};
-use std::alloc::Global;
 use std::test::Fail;
-use unwind_arch::x86_64::{R14, RBP, RBX, RSP};
 use unwinding_core::{FDEFinder, GnuHdrFinder};
 
 // The descriptions of three functions, 0x401000 to 0x401020, 0x401020 to 0x401050 and 0x401050 to
@@ -17,18 +14,6 @@ pub const FRAMES: &str =
 
 // Its header at 0x504000.
 pub const HEADER: &str = "011b033bfcbfffff0300000000d0efff18c0ffff20d0efff54c0ffff50d0efff70c0ffff";
-
-// The words from 0x70b0 on: stack of a call of the third function by nobody, of the second by the
-// third, and of the first by the second.
-const STACK: [u64; 10] = [0, 0x11, 0xc, 0x40_1030, 0x22, 0x40_1060, 0, 0xb, 0xe, 0];
-
-fn stack_of(alloc: Global) -> Result<Vec<u8>, Fail> {
-    let mut bytes = Vec::new(alloc);
-    for word in STACK {
-        bytes.extend_from_slice(&word.to_le_bytes())?;
-    }
-    Ok(bytes)
-}
 
 // What a finder finds by the header for an address: where the function starts, whether its frame
 // table lies at 0x500000, and how many entries were read.
@@ -69,55 +54,5 @@ fn three_functions_are_found_by_a_header(rt: HostRuntime) -> Result<(), Fail> {
         expect_equal(&rt, tables, start.is_some());
         assert!(rt; entries <= 2);
     }
-    Ok(())
-}
-
-// The return addresses and stack pointers of a walk from the second function, with its frame table
-// damaged.
-fn walked(alloc: Global, kind: FrameInfoKind, expected: &[(u64, u64, u64)]) -> Result<bool, Fail> {
-    let mut frames = hex::decode(alloc, FRAMES)?;
-    if frames.len() > 8 {
-        frames[8] = 2;
-    }
-    let header = hex::decode(alloc, HEADER)?;
-    let stack = stack_of(alloc)?;
-    let mut image = MemoryImage::new(alloc);
-    image.add(0x50_0000, &frames)?;
-    image.add(0x50_4000, &header)?;
-    image.add(0x70b0, &stack)?;
-    let mut space = Space::new(alloc, image);
-    let frame = FrameInfo {
-        text_base: None,
-        kind,
-    };
-    space.add_elf(0x40_1000, 0x40_1080, frame)?;
-    let mut start = Context::default();
-    start.ra = 0x40_1030;
-    start.registers[RSP] = 0x70d0;
-    start.registers[RBX] = 0x11;
-    start.registers[RBP] = 0xc;
-    start.registers[R14] = 0x2e;
-    let visited = walk(alloc, &space, &start, false, 8)?;
-    let mut same = visited.len() == expected.len();
-    for (place, (ra, sp, rbx)) in expected.iter().enumerate() {
-        let state = visited.get(place).unwrap_or(Context::default());
-        same = same
-            && state.ra == *ra
-            && state.registers[RSP] == *sp
-            && state.registers[RBX] == *rbx;
-    }
-    Ok(same)
-}
-
-// The first common information entry can't be read: a header leads after it, a scan doesn't.
-#[test]
-fn a_header_leads_past_what_a_scan_cannot_read(rt: HostRuntime) -> Result<(), Fail> {
-    let frames = [
-        (0x40_1030, 0x70d0, 0x11),
-        (0x40_1060, 0x70e0, 0x22),
-        (0, 0x7100, 0xb),
-    ];
-    assert!(rt; walked(rt.alloc(), FrameInfoKind::EhFrameHdr(0x50_4000), &frames)?);
-    assert!(rt; walked(rt.alloc(), FrameInfoKind::EhFrame(0x50_0000), &frames[..1])?);
     Ok(())
 }

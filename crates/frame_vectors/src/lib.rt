@@ -31,6 +31,4 @@ mod rooms;
 #[cfg(test)]
 mod runs;
 #[cfg(test)]
-mod stops;
-#[cfg(test)]
 mod walk_ends;

@@ -11,7 +11,7 @@ use std::alloc::Global;
 use std::fmt::Debug;
 use std::process::Abort;
 use std::test::Fail;
-use unwind_arch::x86_64::{Context, R12, R14, R15, RBP, RBX, RSP};
+use unwind_arch::x86_64::{Context, R12, RBP, RBX, RSP};
 use unwinding_frames::Window;
 
 /// Asserts that a value is the one that is expected. It is proved once, and a call of it is a call.
@@ -134,53 +134,6 @@ fn pe_caller(
     )?;
     let mut stack = Window::new(&image, 0x7000);
     Ok(pe_step(&mut stack, &PE_MODULE, context.ra, context))
-}
-
-// Two words that a prologue pushed, and a return address of 0.
-const PUSHED: [u8; 24] = [
-    0x14, 0, 0, 0, 0, 0, 0, 0, 0x15, 0, 0, 0, 0, 0, 0, 0, 0, 0, 0, 0, 0, 0, 0, 0,
-];
-
-#[test]
-fn a_prologue_is_undone_step_by_step(rt: HostRuntime) -> Result<(), Fail> {
-    // push r15, push r14, push rbx
-    let mut code = [0x90; 32];
-    code[..5].copy_from_slice(&[0x41, 0x57, 0x41, 0x56, 0x53]);
-    let table = [0, 0x10, 0, 0, 0x20, 0x10, 0, 0, 0x10, 0x20, 0, 0];
-    let info = [
-        0x01, 0x05, 0x03, 0x00, 0x05, 0x30, 0x04, 0xe0, 0x02, 0xf0, 0, 0,
-    ];
-    let mut context = stopped_at(0x140001004, 0x7000);
-    context.registers[R14] = 0x14;
-    context.registers[R15] = 0x15;
-    let caller = pe_caller(rt.alloc(), &code, &table, &info, &PUSHED, &context)??;
-    expect_equal(&rt, (caller.ra, caller.registers[RSP]), (0, 0x7018));
-    expect_equal(
-        &rt,
-        (caller.registers[R14], caller.registers[R15]),
-        (0x14, 0x15),
-    );
-    Ok(())
-}
-
-#[test]
-fn an_epilog_is_left_after_its_pop(rt: HostRuntime) -> Result<(), Fail> {
-    let mut code = [0x90; 1024];
-    code[0x2e0] = 0x5b;
-    code[0x2e1] = 0xc3;
-    let table = [0, 0x10, 0, 0, 0, 0x14, 0, 0, 0x10, 0x20, 0, 0];
-    let info = [
-        0x02, 0x01, 0x03, 0x00, 0x02, 0x06, 0x20, 0x16, 0x01, 0x30, 0, 0,
-    ];
-    let mut context = stopped_at(0x1400012e1, 0x7000);
-    context.registers[RBX] = 9;
-    let caller = pe_caller(rt.alloc(), &code, &table, &info, &[0; 8], &context)??;
-    expect_equal(
-        &rt,
-        (caller.ra, caller.registers[RSP], caller.registers[RBX]),
-        (0, 0x7008, 9),
-    );
-    Ok(())
 }
 
 #[test]
