@@ -1,5 +1,5 @@
 -- A core file that is taken: what the test says, that its memory is laid out, and that its modules are apart.
-use Rattle.std.proofs.Common.{◌≡◌, ℕ, Bool, true, false, List, [], ◌∷◌, Option, Some, None, Result, Ok, Err, refl, sym, ap, subst, ◌∙◌, lit<}
+use Rattle.std.proofs.Common.{◌≡◌, ℕ, Bool, true, false, List, [], ◌∷◌, Option, Some, None, Result, Ok, Err, refl, sym, subst, lit<}
 use Rattle.std.specs.Prelude.{is_ok, is_none, is_some, suc, codes, ◌&&◌, if◌then◌else◌}
 use Rattle.std.specs.Option.{option_map, option_and_then}
 use Rattle.serde_json.specs.Data.{Data}
@@ -10,7 +10,6 @@ use Rattle.core_file.specs.declared.errors.CoreError.{CoreError}
 use Rattle.core_file.specs.CoreValue.{CoreValue, core_of}
 use Rattle.core_file.specs.Adding.{first_refused, with_spans}
 use Rattle.memory_image.specs.Results.{◌>>=◌}
-use Rattle.stack_steps.specs.declared.space.Module.{Module}
 use Rattle.stack_steps.specs.Modules.{AreApart}
 use Rattle.stack_snapshot.specs.declared.cores.CoreSnapshotError.{CoreSnapshotError}
 use Rattle.stack_snapshot.specs.declared.errors.Field.{Field}

@@ -1,5 +1,5 @@
 -- What holds of each snapshot: its memory is laid out, its modules are apart, and its start has sixteen registers.
-use Rattle.std.proofs.Common.{◌≡◌, ℕ, suc, ◌-◌, ◌<◌, Bool, true, false, List, [], ◌∷◌, length, Option, Some, None, Result, Ok, Err, refl, sym, ap, subst, ◌∙◌, arith, lit<}
+use Rattle.std.proofs.Common.{◌≡◌, ℕ, suc, Bool, true, false, List, [], ◌∷◌, length, Option, Some, None, Result, Ok, Err, refl, sym, ap, subst, ◌∙◌, arith, lit<}
 use Rattle.std.specs.Prelude.{is_none, codes, if◌then◌else◌}
 use Rattle.std.specs.Option.{option_map, option_and_then}
 use Rattle.serde_json.specs.Data.{Data}
@@ -9,7 +9,7 @@ use Rattle.memory_image.proofs.SpanAdds.{laid-with_span}
 use Rattle.unwind_laws.proofs.Booleans as lists
 use Rattle.unwind_arch.specs.declared.x86_64.Context.{Context}
 use Rattle.stack_steps.specs.declared.space.Module.{Module}
-use Rattle.stack_steps.specs.Modules.{AreApart, fits, given_refusal, with_module}
+use Rattle.stack_steps.specs.Modules.{AreApart, given_refusal, with_module}
 use Rattle.stack_steps.proofs.Apart.{with_apart}
 use Rattle.stack_steps.proofs.Taking.{free_module, free_region}
 use Rattle.stack_steps.proofs.ContextLemmas.{IsWhole}
