@@ -28,7 +28,7 @@ for frames in 1000 10000 100000; do
         "$refused" "$(((refused - bare) / (frames - 2)))" "$(peak "$proved" walk <"$work/input")"
 done
 
-# A large limit costs a short walk nothing: the places are reserved and not filled.
+# A large limit costs a short walk nothing: it gets room for no more states than the stack has words, and one.
 python3 "$here/snapshots.py" calls 1 2 >"$work/input"
 printf 'limit 2        %s instructions, %s kB\n' "$(instructions "$proved" walk <"$work/input")" \
     "$(peak "$proved" walk <"$work/input")"

@@ -1,5 +1,5 @@
 #!/usr/bin/env python3
-"""Tries wrong programs that the gate doesn't try: each is the code of a crate with one edit, and the checker has to refuse it.
+"""Tries the wrong programs of crates, also those that the gate doesn't try: each is the code of a crate with one edit, and the checker has to refuse it.
 
     wrong_programs.py NAME..      of each crate those in crates/NAME/wrong and crates/NAME/must-fail
     wrong_programs.py --texts     none is tried; a line says of each edit that doesn't fit its file what is amiss
