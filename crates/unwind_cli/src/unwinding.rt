@@ -18,29 +18,30 @@ use stack_snapshot::{SampledSnapshot, Snapshot, ThrownSnapshot};
 use std::alloc::{AllocError, Global};
 use unwind_arch::x86_64::{Context, RSP};
 
-// Of less stack than this so many frames are searched for before modules are prepared: a real frame
-// takes some 64 bytes, and an index of a frame table costs as much as some 40 scans of it.
+// Of less stack than this at most so many frames are searched for before modules are prepared: a
+// real frame takes some 64 bytes, and an index of a frame table costs as much as 40 scans of it.
 const SHORT_STACK: usize = 8192;
 
 const FEW_FRAMES: usize = 128;
 
-// And so many where the header is longer than the stack: a search costs as much as the index of one
-// description, for which a header has eight bytes, and a frame takes no fewer of the stack.
+// And at most so many where the header is longer than the stack: a search costs as much as the
+// index of one description, for which a header has eight bytes, and a frame takes no fewer of the
+// stack.
 const FEW_BY_HEADER: usize = 1024;
 
 // What a frame takes of the stack at least: its return address.
 const LEAST_FRAME: usize = 8;
 
-// An index costs as much for a description as two searches for a frame. A description takes some 32
-// bytes of its table and a real frame some 64 of the stack, so a table costs as much as a search for
-// each frame of a stack four times as long.
+// A description takes some 32 bytes of its table and a real frame some 64 of the stack, and a
+// search for a frame costs as much as the index of one description. So a table's index costs as
+// much as a search for each frame of a stack twice as long: twice that is asked.
 const STACK_BY_TABLE: usize = 4;
 
 // A header has eight bytes for a description.
 const TABLE_BY_HEADER: usize = 4;
 
-// How often a frame is searched for where modules aren't prepared: by a walk, and by a delivery that
-// counts the frames, searches for a handler and goes to a frame's cleanup and on from there.
+// How often a frame is searched for where modules aren't prepared: by a walk, and by a delivery
+// that counts the frames, searches for a handler and goes to a frame's cleanup and on from there.
 const BY_WALK: usize = 1;
 
 const BY_DELIVERY: usize = 4;
@@ -88,9 +89,10 @@ fn header_len(space: &Space<'_>, start: &Context) -> usize {
     }
 }
 
-/// How many frames of a snapshot's stack are searched for before modules are prepared, where each is
-/// searched for so often: none of a stack that is long, or where the tables are short beside it. They
-/// are no more than the stack has room for: only one that loops has more.
+/// How many frames of a snapshot's stack are searched for before modules are prepared, where each
+/// is searched for so often: none of a stack that is long and no shorter than the header of the
+/// start's module, or where the tables are short beside it. They are no more than the region of the
+/// stack pointer has room for: a stack has more that loops, or that goes on in another region.
 fn searched_frames(space: &Space<'_>, snapshot: &Snapshot, searches: usize) -> u32 {
     let image = space.image();
     let start = snapshot.start();
@@ -153,7 +155,8 @@ fn few_states(
 }
 
 /// The space of a snapshot over which an exception is delivered. Its modules are prepared, where
-/// they can be, but not for a stack of few frames. Nothing is answered otherwise over it.
+/// they can be, but not for a stack of few frames beside which the tables are long. Nothing is
+/// answered otherwise over it.
 fn delivery_space(alloc: Global, snapshot: &Snapshot) -> Result<Space<'_>, AllocError>
     ensures { IfOk result (λ space. (languages : Languages) (c : State) (exception : ℕ)
         (resumes : List (ℕ × ℕ)) (limit : ℕ) →
@@ -228,8 +231,8 @@ fn prepared_states(
     walk(alloc, space, start, interrupted, limit)
 }
 
-/// The states of a snapshot's stack. Modules are prepared where it is long, longer than their tables,
-/// or has many states.
+/// The states of a snapshot's stack. Modules are prepared where it is long and no shorter than the
+/// header of the start's module, where it is long beside their tables, or where it has many states.
 ///
 /// # Errors
 ///
