@@ -5,7 +5,7 @@ import pathlib
 import tempfile
 import unittest
 
-from wrong_programs import TOP, edits_of, fault_of, faults
+from wrong_programs import TOP, crates_for, edits_of, fault_of, faults
 
 CODE = "fn is_below(a: u64, b: u64) -> bool {\n    a < b\n}\n"
 
@@ -30,6 +30,11 @@ class Texts(unittest.TestCase):
                 ("file: src/lib.rt\n# a < b\n", "a line that begins with neither file, old nor new: # a < b"),
             ):
                 self.assertEqual(fault_of(edit, crate), why, edit)
+
+    def test_a_crate_is_copied_with_those_below(self) -> None:
+        self.assertEqual(list(crates_for(["encoded_pointers"])), ["memory_image", "unwind_definitions", "encoded_pointers"])
+        self.assertIn("frame_rows", crates_for(["unwind_cli"]))
+        self.assertNotIn("unwind_cli", crates_for(["stack_deliver", "stack_walks"]))
 
     def test_few_crates_have_edits_that_the_gate_tries(self) -> None:
         tried = [crate.name for crate in sorted((TOP / "crates").iterdir()) if (crate / "must-fail").is_dir()]

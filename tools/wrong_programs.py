@@ -4,8 +4,8 @@
     wrong_programs.py NAME..      of each crate those in crates/NAME/wrong and crates/NAME/must-fail
     wrong_programs.py --texts     none is tried; a line says of each edit that doesn't fit its file what is amiss
 
-They are tried in a copy of the repository, by `rt must-fail`, which begins with what checks on this machine kept. The status is 1
-where one isn't refused, or doesn't fit.
+They are tried by `rt must-fail` in a copy of these crates and of those below them, with what checks in this repository left in
+their out/. The status is 1 where one isn't refused, or doesn't fit.
 """
 from __future__ import annotations
 
@@ -61,17 +61,29 @@ def faults(top: pathlib.Path) -> list[str]:
     return found
 
 
+def crates_for(names: list[str]) -> dict[str, str]:
+    """The lines of crates.txt of some crates and of all that they stand on, by their names."""
+    lines = {line.partition(":")[0].split()[0]: line for line in (TOP / "crates.txt").read_text().splitlines() if not line.startswith("#")}
+    wanted = {*names}
+    for name, line in reversed(lines.items()):
+        if name in wanted:
+            wanted |= {it for it in line.partition(":")[2].split() if it in lines}
+    return {name: line for name, line in lines.items() if name in wanted}
+
+
 def tried(names: list[str]) -> int:
     """Tries the edits of crates in a copy, and gives the status of `rt must-fail`."""
     with tempfile.TemporaryDirectory(prefix="wrong-programs-") as folder:
         room = pathlib.Path(folder)
-        shutil.copytree(TOP / "crates", room / "crates", ignore=shutil.ignore_patterns("out"))
-        for name in ("crates.txt", "HANDLES"):
-            shutil.copyfile(TOP / name, room / name)
-        for crate in (room / "crates").iterdir():
-            for edit in (crate / "wrong").glob("*.edit"):
-                (crate / "must-fail").mkdir(exist_ok=True)
-                edit.rename(crate / "must-fail" / edit.name)
+        lines = crates_for(names)
+        (room / "crates.txt").write_text("\n".join([*lines.values(), ""]))
+        shutil.copyfile(TOP / "HANDLES", room / "HANDLES")
+        for name in lines:
+            shutil.copytree(TOP / "crates" / name, room / "crates" / name)
+        for name in names:
+            for edit in (room / "crates" / name / "wrong").glob("*.edit"):
+                (room / "crates" / name / "must-fail").mkdir(exist_ok=True)
+                edit.rename(room / "crates" / name / "must-fail" / edit.name)
         return subprocess.run(["rt", "must-fail", *names], cwd=room, check=False).returncode
 
 
