@@ -52,11 +52,11 @@ threads_by_notes bytes (h ∷ hs) =
 abbrev answer : Bool → Bool → Bool → Bool → CoreValue → Result CoreValue CoreError
 answer header many fit whole value = if header then (if many then Err faults.ManySegments else (if fit then (if whole then Ok value else Err faults.Notes) else Err faults.Segments)) else Err faults.Header
 
-record AreGood (header many fit whole : Bool) : Type 0 where
-  is_header : header ≡ true
-  is_few : many ≡ false
-  is_fit : fit ≡ true
-  is_whole : whole ≡ true
+pub record AreGood (header many fit whole : Bool) : Type 0 where
+  pub is_header : header ≡ true
+  pub is_few : many ≡ false
+  pub is_fit : fit ≡ true
+  pub is_whole : whole ≡ true
 
 good : (header many fit whole : Bool) (value core : CoreValue) → answer header many fit whole value ≡ Ok core → AreGood header many fit whole × (value ≡ core)
 good false many fit whole value core e = absurd cc
@@ -100,6 +100,22 @@ few bytes other = ne_eqb (header_count bytes) PN_XNUM other
 
 other : (bytes : List ℕ) → eqb (header_count bytes) PN_XNUM ≡ false → header_count bytes ≢ PN_XNUM
 other bytes differs is = both_ways (eqb (header_count bytes) PN_XNUM) differs (eq-eqb (header_count bytes) PN_XNUM is)
+
+-- the parts of a core file are what they have to be, and so they are one
+abbrev pub IsGood : List ℕ → Type 0
+IsGood bytes = AreGood (has_core_header bytes) (eqb (header_count bytes) PN_XNUM) (segments_fit bytes) (notes_are_whole bytes (headers_of bytes))
+
+pub core_is_good : (bytes : List ℕ) (core : CoreValue) → core_of bytes ≡ Ok core → IsGood bytes
+unfolding core_of
+core_is_good bytes core e =
+    let hs = headers_of bytes in
+    (good (has_core_header bytes) (eqb (header_count bytes) PN_XNUM) (segments_fit bytes) (notes_are_whole bytes hs) (core_with bytes hs) core e).0
+
+pub good_is_core : (bytes : List ℕ) → IsGood bytes → core_of bytes ≡ Ok (core_with bytes (headers_of bytes))
+unfolding core_of
+good_is_core bytes g =
+    let header = g.is_header in let counted = g.is_few in let fit = g.is_fit in let whole = g.is_whole in
+    rw (header, counted, fit, whole) refl
 
 -- what is read is what the program headers say
 pub core-held : (bytes : List ℕ) (core : CoreValue) → core_of bytes ≡ Ok core → core_with bytes (headers_of bytes) ≡ core

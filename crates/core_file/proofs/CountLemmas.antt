@@ -85,15 +85,19 @@ records_count : (size : ℕ) (bytes : List ℕ) (n : ℕ) → length (records_in
 records_count size bytes zero = refl
 records_count size bytes (suc n) = ap suc (records_count size (drop size bytes) n)
 
--- the threads of a file of up to 2^48 bytes: there are fewer than 2^16 program headers
-pub threads_countable : (bytes : List ℕ) (core : CoreValue) → core_of bytes ≡ Ok core → ((i : ℕ) → get_or bytes i 0 < 256) → length bytes ≤ 2 ^ 48 → length core.threads < 2 ^ 64
-threads_countable bytes core is are fits =
+-- the threads of up to 2^48 bytes: there are fewer than 2^16 program headers
+pub threads_countable : (bytes : List ℕ) → ((i : ℕ) → get_or bytes i 0 < 256) → length bytes ≤ 2 ^ 48 → length (threads_in bytes (headers_of bytes)) < 2 ^ 64
+threads_countable bytes are fits =
     let hs = headers_of bytes in
-    let held : threads_in bytes hs ≡ core.threads = ap (λ (v : CoreValue). v.threads) (core-held bytes core is) in
     let few = threads_few bytes hs in
     let headers : length hs ≡ header_count bytes = records_count program_header_size (drop (headers_offset bytes) bytes) (header_count bytes) in
     let count : header_count bytes < 65536 = u16_small bytes 56 are in
-    subst (λ (ts : List Context). length ts < 2 ^ 64) held (product (length hs) (length bytes) _ few (omega arith) fits)
+    product (length hs) (length bytes) _ few (omega arith) fits
   where
     product : (k n all : ℕ) → all ≤ k * n → k < 65536 → n ≤ 281474976710656 → all < 18446744073709551616
     product k n all few count fits = let most : k * n ≤ 65535 * n = mul-le-mul_right n (omega arith) in omega arith
+
+pub core_countable : (bytes : List ℕ) (core : CoreValue) → core_of bytes ≡ Ok core → ((i : ℕ) → get_or bytes i 0 < 256) → length bytes ≤ 2 ^ 48 → length core.threads < 2 ^ 64
+core_countable bytes core is are fits =
+    let held : threads_in bytes (headers_of bytes) ≡ core.threads = ap (λ (v : CoreValue). v.threads) (core-held bytes core is) in
+    subst (λ (ts : List Context). length ts < 2 ^ 64) held (threads_countable bytes are fits)

@@ -8,3 +8,6 @@ pub mod CoreLemmas
 pub mod AddingLemmas
 pub mod SampleLemmas
 pub mod CountLemmas
+pub mod EndLemmas
+pub mod BeginLemmas
+pub mod FrontLemmas

@@ -1,6 +1,5 @@
 -- The parts of files, one after another, and the note that tells of them.
-use Rattle.std.proofs.Common.{◌≡◌, ℕ, ◌+◌, List, [], ◌∷◌, length, drop, slice_get, Option, Some, None, refl, ap, ◌∙◌, true, false}
-use Rattle.std.specs.Option.{option_or}
+use Rattle.std.proofs.Common.{◌≡◌, ℕ, ◌+◌, List, [], ◌∷◌, drop, slice_get, Some, None, refl, ap, ◌∙◌, true, false}
 use Rattle.core_file.specs.declared.mapped.PartEntry.{PartEntry}
 use Rattle.core_file.specs.declared.program_header.ProgramHeader.{ProgramHeader}
 use Rattle.core_file.specs.Notes.{Note, notes_of}

@@ -3,11 +3,13 @@ use Rattle.std.proofs.Common.{◌≡◌, ℕ, ◌+◌, ◌≤◌, List, [], ◌�
 use Rattle.std.specs.List.{cons_option}
 use Rattle.memory_image.specs.Image.{Span}
 use Rattle.unwind_arch.specs.declared.x86_64.Context.{Context}
+use Rattle.core_file.specs.declared.places.SegmentPlace.{SegmentPlace}
 use Rattle.core_file.specs.declared.program_header.ProgramHeader.{ProgramHeader}
 use Rattle.core_file.specs.ProgramHeaders.{segment_in, segments_in}
 use Rattle.core_file.specs.Notes.{Note, notes_of}
 use Rattle.core_file.specs.ThreadStatus.{thread_of}
 use Rattle.core_file.specs.CoreValue.{note_bytes, threads_in_notes, threads_in}
+use Rattle.core_file.specs.Fronts.{place_in, places_in}
 use Rattle.core_file.proofs.ListLemmas.{drop_at_get}
 use Rattle.core_file.proofs.NoteLemmas.{none_of_none}
 
@@ -50,3 +52,20 @@ segments_few bytes (h ∷ hs) = let later = segments_few bytes hs in go (segment
     go : (o : Option Span) → length (segments_in bytes hs) ≤ length hs → length (cons_option o (segments_in bytes hs)) ≤ length (h ∷ hs)
     go None later = omega arith
     go (Some s) later = omega arith
+
+-- ---- where segments of memory lie
+
+pub places_skip : (hs : List ProgramHeader) (i : ℕ) (h : ProgramHeader) → slice_get hs i ≡ Some h → place_in h ≡ None → places_in (drop i hs) ≡ places_in (drop (i + 1) hs)
+places_skip hs i h at none = ap places_in (drop_at_get hs i h at) ∙ rw none refl
+
+pub places_give : (hs : List ProgramHeader) (i : ℕ) (h : ProgramHeader) (p : SegmentPlace) → slice_get hs i ≡ Some h → place_in h ≡ Some p → places_in (drop i hs) ≡ p ∷ places_in (drop (i + 1) hs)
+places_give hs i h p at some = ap places_in (drop_at_get hs i h at) ∙ rw some refl
+
+-- there are no more of them than program headers
+pub places_few : (hs : List ProgramHeader) → length (places_in hs) ≤ length hs
+places_few [] = omega arith
+places_few (h ∷ hs) = let later = places_few hs in go (place_in h) later
+  where
+    go : (o : Option SegmentPlace) → length (places_in hs) ≤ length hs → length (cons_option o (places_in hs)) ≤ length (h ∷ hs)
+    go None later = omega arith
+    go (Some p) later = omega arith

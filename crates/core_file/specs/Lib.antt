@@ -12,6 +12,8 @@ pub mod CoreGrammar
 pub mod MappedParts
 pub mod PartEntryBytes
 pub mod MappedViews
+-- What the first bytes of a core file say.
+pub mod Fronts
 -- What an image holds after a core's segments were added, and what the iterators have left.
 pub mod Adding
 pub mod Left

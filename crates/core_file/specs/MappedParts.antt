@@ -71,6 +71,10 @@ parts_after d count = parts_from (u64_at d 8) (records_in 24 part_entry_of (drop
 abbrev pub parts_in : List ℕ → Option (List PartValue)
 parts_in d = if nat_lt (length d) 16 then None else (if nat_le (16 + u64_at d 0 * 24) (length d) then Some (parts_after d (u64_at d 0)) else None)
 
+-- the parts of which the notes of these segments tell
+abbrev pub parts_by_notes : List ℕ → List ProgramHeader → Option (List PartValue)
+parts_by_notes bytes hs = option_and_then parts_in (files_in bytes hs)
+
 -- the parts of files that were mapped, where the bytes are a core file and a note tells of them
 abbrev pub mapped_parts : List ℕ → Option (List PartValue)
 mapped_parts bytes = if has_core_header bytes then option_and_then parts_in (option_and_then (files_in bytes) (headers_within bytes)) else None

@@ -35,6 +35,10 @@ headers_of bytes = records_in program_header_size program_header_of (drop (heade
 abbrev pub headers_fit : List ℕ → Bool
 headers_fit bytes = nat_le (headers_offset bytes + header_count bytes * program_header_size) (length bytes)
 
+-- the program headers, where that is so
+abbrev pub program_headers : List ℕ → Option (List ProgramHeader)
+program_headers bytes = if headers_fit bytes then Some (headers_of bytes) else None
+
 -- the part of the file that is a segment's
 abbrev pub file_bytes : List ℕ → ProgramHeader → List ℕ
 file_bytes bytes h = take h.p_filesz (drop h.p_offset bytes)
@@ -46,9 +50,13 @@ is_within size h = if (h.p_type == PT_LOAD) || (h.p_type == PT_NOTE) then nat_le
 abbrev pub are_within : List ℕ → List ProgramHeader → Bool
 are_within bytes hs = list_all (is_within (length bytes)) hs
 
--- the memory of a segment, where it is one of memory and the file has bytes of it
+-- a segment is one of memory, and the file has bytes of it
+abbrev pub has_memory : ProgramHeader → Bool
+has_memory h = (h.p_type == PT_LOAD) && nat_lt 0 h.p_filesz
+
+-- the memory of such a segment
 abbrev pub segment_in : List ℕ → ProgramHeader → Option Span
-segment_in bytes h = if (h.p_type == PT_LOAD) && nat_lt 0 h.p_filesz then Some (record { start = h.p_vaddr; bytes = file_bytes bytes h }) else None
+segment_in bytes h = if has_memory h then Some (record { start = h.p_vaddr; bytes = file_bytes bytes h }) else None
 
 -- the memory that the file has, in the order of the program headers
 abbrev pub segments_in : List ℕ → List ProgramHeader → List Span

@@ -1,7 +1,8 @@
 -- A core file of one thread that was stopped in a function that had pushed RBX, with sixteen bytes of its stack.
-use Rattle.std.specs.Prelude.{ℕ, List, [], ◌∷◌, ◌++◌, replicate}
+use Rattle.std.specs.Prelude.{ℕ, List, [], ◌∷◌, ◌++◌, None, replicate}
 use Rattle.core_file.specs.ElfHeader.{identification}
 use Rattle.core_file.specs.CoreValue.{CoreValue}
+use Rattle.core_file.specs.Fronts.{FrontValue}
 
 -- numbers of two, four and eight bytes that are below 256, and zeros
 abbrev pub half : ℕ → List ℕ
@@ -47,4 +48,16 @@ abbrev pub one_thread_value : CoreValue
 one_thread_value = record {
   segments = record { start = 0x7000; bytes = stack } ∷ [];
   threads = record { registers = 0 ∷ 0 ∷ 0 ∷ 9 ∷ 0 ∷ 0 ∷ 0 ∷ 0x7000 ∷ 0 ∷ 0 ∷ 0 ∷ 0 ∷ 0 ∷ 0 ∷ 0 ∷ 0 ∷ []; ra = 0x401006; mcxsr = 0; fcw = 0 } ∷ [];
+}
+
+-- the file without its memory, and what this says
+abbrev pub one_thread_front : List ℕ
+one_thread_front = elf_header ++ notes_header ++ memory_header ++ note
+
+abbrev pub one_thread_front_value : FrontValue
+one_thread_front_value = record {
+  threads = one_thread_value.threads;
+  places = record { address = 0x7000; offset = 532; size = 16 } ∷ [];
+  parts = None;
+  end = 548;
 }

@@ -12,8 +12,8 @@ ghost use Rattle.core_file.specs.Adding.{with_spans, first_refused, error_at, Ho
 ghost use Rattle.core_file.specs.Left.{segments_left, threads_left};
 
 use crate::errors::{AddError, CoreError};
-use crate::header::{PN_XNUM, has_core_header, header_count, headers_offset};
-use crate::program_header::{ProgramHeader, are_within};
+use crate::header::{PN_XNUM, has_core_header, header_count};
+use crate::program_header::{ProgramHeader, are_within, program_headers};
 use crate::segments::Segments;
 use crate::threads::{Threads, notes_are_whole};
 use memory_image::{ImageError, MemoryImage, Records};
@@ -41,8 +41,7 @@ pub(crate) fn headers_within(bytes: &[u8]) -> Option<Records<'_, ProgramHeader>>
     requires { 64 ≤ length bytes.now }
     ensures { result ≡ headers_within bytes.now }
 {
-    let count = usize::from(header_count(bytes));
-    let headers = Records::over(bytes, headers_offset(bytes), count)?;
+    let headers = program_headers(bytes)?;
     if are_within(bytes, &headers) {
         Some(headers)
     } else {

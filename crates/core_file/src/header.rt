@@ -8,9 +8,9 @@ use memory_image::u64_at;
 // the magic number, the class of 64 bits, and the form whose numbers have their lowest byte first
 const IDENTIFICATION: [u8; 6] = [0x7f, b'E', b'L', b'F', 2, 1];
 
-const HEADER_SIZE: usize = 64;
+pub(crate) const HEADER_SIZE: usize = 64;
 
-const PROGRAM_HEADER_SIZE: u16 = 56;
+pub(crate) const PROGRAM_HEADER_SIZE: u16 = 56;
 
 const ET_CORE: u16 = 4;
 

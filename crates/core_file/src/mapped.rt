@@ -3,7 +3,7 @@ ghost use Rattle.std.specs.Prelude.{◌≡◌};
 ghost use Rattle.std.specs.Option.{option_map};
 ghost use Rattle.core_file.specs.Left.{note_of, notes_left};
 ghost use Rattle.core_file.specs.MappedParts.{is_on_files, description_in, files_in, split_path};
-ghost use Rattle.core_file.specs.MappedParts.{parts_in, mapped_parts};
+ghost use Rattle.core_file.specs.MappedParts.{parts_in, parts_by_notes, mapped_parts};
 ghost use Rattle.core_file.specs.MappedViews.{parts_left};
 
 use crate::file::headers_within;
@@ -158,6 +158,17 @@ fn parts_in(description: &[u8]) -> Option<MappedParts<'_>>
     })
 }
 
+/// The parts of files that were mapped, of which the notes of these segments tell.
+pub(crate) fn parts_by_notes<'a>(
+    bytes: &'a [u8],
+    headers: &Records<'_, ProgramHeader>,
+) -> Option<MappedParts<'a>>
+    ensures { option_map parts_left result ≡ parts_by_notes bytes.now headers.now }
+{
+    let description = files_in(bytes, headers)?;
+    parts_in(description)
+}
+
 /// The parts of files that were mapped where these bytes are the core file: those of the first note
 /// `NT_FILE`. `None` where there is no such note, where its parts don't lie within it, or where the
 /// bytes don't begin with the header of a core file, or its segments don't lie within them.
@@ -168,6 +179,5 @@ pub fn mapped_parts(bytes: &[u8]) -> Option<MappedParts<'_>>
         return None;
     }
     let headers = headers_within(bytes)?;
-    let description = files_in(bytes, &headers)?;
-    parts_in(description)
+    parts_by_notes(bytes, &headers)
 }

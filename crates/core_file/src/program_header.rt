@@ -1,17 +1,21 @@
 // Program headers, which say what the segments of a file are. System V gABI, chapter "Program Loading and Dynamic
 // Linking", part "Program Header".
-ghost use Rattle.std.specs.Prelude.{◌≡◌, ◌↔◌, ◌<◌, length, IsTrue};
+ghost use Rattle.std.specs.Prelude.{◌≡◌, ◌↔◌, ◌<◌, ◌≤◌, length, IsTrue};
 ghost use Rattle.std.specs.Option.{option_map};
 ghost use Rattle.memory_image.specs.Regions.{span_of};
 ghost use Rattle.core_file.specs.ProgramHeaders.{file_bytes, is_within, are_within, segment_in};
+ghost use Rattle.core_file.specs.ProgramHeaders.{has_memory, program_headers};
 ghost use Rattle.core_file.specs.CoreValue.{note_bytes};
+ghost use Rattle.core_file.specs.Fronts.{place_in, end_of, last_end, fitting};
 
+use crate::header::{header_count, headers_offset};
+use crate::places::SegmentPlace;
 use memory_image::{Record, Records, u32_at, u64_at};
 
 // the type of a segment that is memory, and that of one that is notes
-const PT_LOAD: u32 = 1;
+pub(crate) const PT_LOAD: u32 = 1;
 
-const PT_NOTE: u32 = 4;
+pub(crate) const PT_NOTE: u32 = 4;
 
 /// A program header: what a segment is, and where it lies in the file and in memory.
 #[derive(Clone, Copy)]
@@ -77,14 +81,48 @@ impl ProgramHeader {
         }
     }
 
+    /// Whether the segment is one of memory, and the file has bytes of it.
+    fn has_memory(&self) -> bool
+        ensures { result ≡ has_memory self.now }
+    {
+        self.p_type == PT_LOAD && self.p_filesz > 0
+    }
+
     /// The address and the bytes of the segment, where it is one of memory and the file has bytes of it.
     pub(crate) fn segment<'a>(&self, bytes: &'a [u8]) -> Option<(u64, &'a [u8])>
         ensures { option_map span_of result ≡ segment_in bytes.now self.now }
     {
-        if self.p_type == PT_LOAD && self.p_filesz > 0 {
+        if self.has_memory() {
             Some((self.p_vaddr, self.file_bytes(bytes)))
         } else {
             None
+        }
+    }
+
+    /// Where the segment lies, where it is one of memory and the file has bytes of it.
+    pub(crate) fn place(&self) -> Option<SegmentPlace>
+        ensures { result ≡ place_in self.now }
+    {
+        if self.has_memory() {
+            Some(SegmentPlace {
+                address: self.p_vaddr,
+                offset: self.p_offset,
+                size: self.p_filesz,
+            })
+        } else {
+            None
+        }
+    }
+
+    /// Where the segment ends in the file, and 0 where it is of another type. `None` where the end
+    /// passes 2^64.
+    fn end_of(&self, kind: u32) -> Option<u64>
+        ensures { result ≡ fitting (end_of kind self.now) }
+    {
+        if self.p_type == kind {
+            self.p_offset.checked_add(self.p_filesz)
+        } else {
+            Some(0)
         }
     }
 
@@ -98,6 +136,26 @@ impl ProgramHeader {
             &[]
         }
     }
+}
+
+/// The program headers of a file, where they lie within these bytes of it.
+pub(crate) fn program_headers(bytes: &[u8]) -> Option<Records<'_, ProgramHeader>>
+    requires { 64 ≤ length bytes.now }
+    ensures { result ≡ program_headers bytes.now }
+{
+    let count = usize::from(header_count(bytes));
+    Records::over(bytes, headers_offset(bytes), count)
+}
+
+/// Where the segments of a type end in the file: the greatest end. `None` where an end passes 2^64.
+pub(crate) fn last_end(headers: &Records<'_, ProgramHeader>, kind: u32) -> Option<u64>
+    ensures { result ≡ fitting (last_end kind headers.now) }
+{
+    let mut end = 0;
+    for i in 0..headers.len() {
+        end = headers.at(i).end_of(kind)?.max(end);
+    }
+    Some(end)
 }
 
 /// Whether each segment of memory or of notes lies within the file.

@@ -1,7 +1,7 @@
 //! Core files: a worked one, byte by byte, what isn't one, and notes as programs write them.
 
 use crate::asserting::expect_equal;
-use core_file::{AddError, CoreError, CoreFile, mapped_parts};
+use core_file::{AddError, CoreError, CoreFile, CoreFront, SegmentPlace, front_size, mapped_parts};
 use memory_image::MemoryImage;
 use std::alloc::{AllocError, Global};
 use std::test::Fail;
@@ -115,6 +115,76 @@ fn what_is_no_core_file_is_refused(rt: HostRuntime) -> Result<(), Fail> {
     ] {
         expect_equal(&rt, format!(in alloc; "{error}")?.as_str(), text);
     }
+    Ok(())
+}
+
+#[test]
+fn the_front_of_the_worked_file_is_read(rt: HostRuntime) -> Result<(), Fail> {
+    let file = worked_file(rt.alloc())?;
+    let bytes = file.get(..532).ok_or("the file is short")?;
+    let front = CoreFront::parse(bytes).ok_or("no front")?;
+    let mut places = front.places();
+    let place = SegmentPlace {
+        address: 0x7000,
+        offset: 532,
+        size: 16,
+    };
+    expect_equal(&rt, places.next(), Some(place));
+    expect_equal(&rt, places.next(), None);
+    expect_equal(&rt, front.end(), 548);
+    expect_equal(&rt, front.mapped_parts().is_none(), true);
+    let mut threads = front.threads();
+    let thread = threads.next().ok_or("no thread")?;
+    expect_equal(&rt, thread.ra, 0x40_1006);
+    expect_equal(&rt, thread.registers[RSP], 0x7000);
+    expect_equal(&rt, threads.next().is_none(), true);
+    Ok(())
+}
+
+#[test]
+fn a_front_has_the_headers_and_the_notes(rt: HostRuntime) -> Result<(), Fail> {
+    let file = worked_file(rt.alloc())?;
+    for (size, needed, is_read) in [
+        (63, None, false),
+        (64, Some(176), false),
+        (175, Some(176), false),
+        (176, Some(532), false),
+        (531, Some(532), false),
+        (532, Some(532), true),
+        (548, Some(532), true),
+    ] {
+        let part = file.get(..size).ok_or("the file is short")?;
+        expect_equal(&rt, front_size(part), needed);
+        expect_equal(&rt, CoreFront::parse(part).is_some(), is_read);
+    }
+    Ok(())
+}
+
+// Whether the worked file with other bytes at some indexes is read as a front.
+fn has_front_with(alloc: Global, others: &[(usize, u8)]) -> Result<bool, AllocError> {
+    let mut file = worked_file(alloc)?;
+    for (index, byte) in others {
+        if let Some(place) = file.get_mut(*index) {
+            *place = *byte;
+        }
+    }
+    Ok(CoreFront::parse(&file).is_some())
+}
+
+#[test]
+fn what_is_no_front_is_refused(rt: HostRuntime) -> Result<(), Fail> {
+    let alloc = rt.alloc();
+    // Memory may end past these bytes, and not past 2^64.
+    expect_equal(&rt, has_front_with(alloc, &[(135, 0xff)])?, true);
+    expect_equal(&rt, has_front_with(alloc, &[(135, 0xff), (159, 1)])?, false);
+    // Another type of file, too many program headers, and notes that end past their segment.
+    expect_equal(&rt, has_front_with(alloc, &[(16, 2)])?, false);
+    expect_equal(
+        &rt,
+        has_front_with(alloc, &[(56, 0xff), (57, 0xff)])?,
+        false,
+    );
+    expect_equal(&rt, has_front_with(alloc, &[(176, 0xff)])?, false);
     Ok(())
 }
 

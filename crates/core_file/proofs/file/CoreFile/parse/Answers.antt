@@ -4,7 +4,7 @@ use Rattle.core_file.specs.declared.errors.CoreError.{CoreError}
 use Rattle.core_file.specs.CoreValue.{CoreValue, core_of}
 use Rattle.core_file.specs.CoreGrammar.{IsCore}
 use Rattle.core_file.proofs.CoreLemmas.{read-core, core-read, header_cause, many_cause, segments_cause, notes_cause}
-use Rattle.core_file.proofs.CountLemmas.{threads_countable}
+use Rattle.core_file.proofs.CountLemmas.{core_countable}
 use Rattle.core_file.proofs.file.CoreFile.parse.Goals as goal
 
 pub returns-clause-grammar : goal.returns-clause-grammar
@@ -33,5 +33,5 @@ pub returns-clause-few : goal.returns-clause-few
 returns-clause-few c = go c.core_in.result c.core_in.ensures
   where
     go : (r : Result CoreValue CoreError) → r ≡ core_of c.args.bytes.now → length c.args.bytes.now ≤ 2 ^ 48 → IfOk r (λ core. length core.threads < 2 ^ 64)
-    go (Ok core) is = λ fits. threads_countable c.args.bytes.now core (sym is) (λ i. let byte = c.type_inv.bytes i in omega arith) fits
+    go (Ok core) is = λ fits. core_countable c.args.bytes.now core (sym is) (λ i. let byte = c.type_inv.bytes i in omega arith) fits
     go (Err e) is = λ _. tt
