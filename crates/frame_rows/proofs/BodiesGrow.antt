@@ -5,6 +5,7 @@ use Rattle.std.specs.List.{AllByRecursion}
 use Rattle.std.proofs.lemmas.List.{take-append-le, drop-append-le, map-append}
 use Rattle.std.proofs.Math.Seq.{drop-append_seam, take-length}
 use Rattle.unwind_definitions.specs.declared.error.Error.{Error as Fault}
+use Rattle.frame_rows.specs.Reach.{IsReach}
 use Rattle.frame_rows.specs.Rules.{entry_of, AscendsFrom}
 use Rattle.frame_rows.specs.Bodies.{IsInRules, body_rules, body_in, kept_answer}
 use Rattle.unwind_arch.specs.declared.register.Register.{Register as Column}
@@ -34,6 +35,7 @@ module _ (rules es : List (Column × RegisterRule)) where
     within = let w = is.within in let n = length-append rules es in omega arith;
     few = is.few;
     ascending = subst (AscendsFrom 0) (sym (still_ruled k is)) is.ascending;
+    reached = subst (IsReach k.reach) (sym (still_ruled k is)) is.reached;
   }
 
   pub all_still_in : (ks : List RowBody) → AllByRecursion (IsInRules rules) ks → AllByRecursion (IsInRules (rules ++ es)) ks
@@ -44,9 +46,9 @@ module _ (rules es : List (Column × RegisterRule)) where
   all_same [] all = refl
   all_same (k ∷ ks) all = ap (λ l. kept_answer k.cfa l k.saved_args_size ∷ map (body_in (rules ++ es)) ks) (still_ruled k all.0) ∙ ap (λ l. body_in rules k ∷ l) (all_same ks all.1)
 
-  module _ (cfa : Result CodedCfa Fault) (size : ℕ) where
+  module _ (cfa : Result CodedCfa Fault) (size reach : ℕ) where
     abbrev pub added : RowBody
-    added = record { cfa = cfa; saved_args_size = size; first_rule = length rules; end_rule = length rules + length es }
+    added = record { cfa = cfa; saved_args_size = size; first_rule = length rules; end_rule = length rules + length es; reach = reach }
 
     added_ruled : body_rules (rules ++ es) added ≡ map entry_of es
     added_ruled =
@@ -54,16 +56,17 @@ module _ (rules es : List (Column × RegisterRule)) where
         ap (λ l. map entry_of (take (length rules + length es - length rules) l)) (drop-append_seam rules es)
         ∙ ap (λ n. map entry_of (take n es)) n ∙ ap (map entry_of) (take-length es)
 
-    added_in : AscendsFrom 0 (map entry_of es) → length es ≤ 32 → IsInRules (rules ++ es) added
-    added_in ascending few = record {
+    added_in : AscendsFrom 0 (map entry_of es) → length es ≤ 32 → IsReach reach (map entry_of es) → IsInRules (rules ++ es) added
+    added_in ascending few reached = record {
       ordered = omega arith;
       within = let n = length-append rules es in omega arith;
       few = omega arith;
       ascending = subst (AscendsFrom 0) (sym added_ruled) ascending;
+      reached = subst (IsReach reach) (sym added_ruled) reached;
     }
 
-    pub all_in : (ks : List RowBody) → AllByRecursion (IsInRules rules) ks → AscendsFrom 0 (map entry_of es) → length es ≤ 32 → AllByRecursion (IsInRules (rules ++ es)) (ks ++ added ∷ [])
-    all_in ks all ascending few = all_push (IsInRules (rules ++ es)) ks added (all_still_in ks all) (added_in ascending few)
+    pub all_in : (ks : List RowBody) → AllByRecursion (IsInRules rules) ks → AscendsFrom 0 (map entry_of es) → length es ≤ 32 → IsReach reach (map entry_of es) → AllByRecursion (IsInRules (rules ++ es)) (ks ++ added ∷ [])
+    all_in ks all ascending few reached = all_push (IsInRules (rules ++ es)) ks added (all_still_in ks all) (added_in ascending few reached)
 
     pub grown : (ks : List RowBody) → AllByRecursion (IsInRules rules) ks →
         map (body_in (rules ++ es)) (ks ++ added ∷ []) ≡ map (body_in rules) ks ++ kept_answer cfa (map entry_of es) size ∷ []

@@ -11,7 +11,7 @@ use Rattle.unwind_definitions.specs.Instructions.{Rule, Offset, ValOffset, Undef
 use Rattle.frame_rows.specs.Movable.{IsRelative, IsMovable}
 
 -- the same is read, and the same bytes are left
-abbrev Same : {A : Type 0} → Result (A × Input) Fault → Result (A × Input) Fault → Type 0
+abbrev pub Same : {A : Type 0} → Result (A × Input) Fault → Result (A × Input) Fault → Type 0
 Same (Ok r) (Ok s) = (r.0 ≡ s.0) × (r.1.bytes ≡ s.1.bytes)
 Same (Ok r) (Err e) = ⊥
 Same (Err e) (Ok r) = ⊥
@@ -106,7 +106,7 @@ abbrev nothing : Program
 nothing = record { instructions = []; fault = None }
 
 -- the same is read, where what is read sets no location
-abbrev Agrees : Result (Instruction × Input) Fault → Result (Instruction × Input) Fault → Type 0
+abbrev pub Agrees : Result (Instruction × Input) Fault → Result (Instruction × Input) Fault → Type 0
 Agrees (Ok r) other = IsRelative r.0 → Same (Ok r) other
 Agrees (Err e) other = Unit {0}
 
@@ -212,7 +212,7 @@ module _ (k j : Coding) (code : k.code_factor ≡ j.code_factor) (units : k.data
   agrees_then (Ok r) (Err e) f g same next = absurd same
   agrees_then (Err e) y f g same next = tt
 
-  instruction_agrees : (c d : Input) → c.bytes ≡ d.bytes → Agrees (instruction k c) (instruction j d)
+  pub instruction_agrees : (c d : Input) → c.bytes ≡ d.bytes → Agrees (instruction k c) (instruction j d)
   instruction_agrees c d same = agrees_then (number w8 c) (number w8 d) _ _ (same_number w8 c d same) (λ b x y more. instruction_of_agrees x y more (b / 64) (b % 64))
 
   module _ (turns : ℕ) (later : (c d : Input) → c.bytes ≡ d.bytes → IsMovable (program_from turns k c) → program_from turns j d ≡ program_from turns k c) where

@@ -12,6 +12,12 @@ mod Ends
 mod Parts
 mod Adding
 mod BodiesGrow
+mod BodySteps
+mod BodyMakes
+mod RunAdds
+mod RunSteps
+mod SliceReading
+mod Standing
 mod Growing
 mod LookedUp
 mod ByBytes

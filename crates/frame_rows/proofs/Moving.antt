@@ -17,3 +17,5 @@ short_relative short.Nop = tt
 short_relative (short.Advance delta) = tt
 short_relative (short.Save register offset) = tt
 short_relative (short.DefineCfaOffset offset) = tt
+short_relative short.RememberState = tt
+short_relative short.RestoreState = tt

@@ -10,10 +10,10 @@ use Rattle.std.proofs.Math.Seq.{get_or-append_seam}
 use Rattle.unwind_definitions.specs.declared.error.Error.{Error as Fault}
 use Rattle.unwind_definitions.specs.declared.error.Error.TheVariants.{NoCfaRegister}
 use Rattle.unwind_definitions.specs.Instructions.{Rule}
-use Rattle.frame_rows.specs.Bodies.{body_in, body_rules, kept_answer}
+use Rattle.frame_rows.specs.Bodies.{Says, body_in, body_rules, kept_answer}
 use Rattle.frame_rows.specs.RowValue.{RowValue}
 use Rattle.frame_rows.specs.KeptRows.{Kept, KeptRows, IsLonger}
-use Rattle.frame_rows.specs.SameRules.{HasRules, IsBodyOf, IsBodyWith, IsRowWith, KeepsRules, KnowsRows}
+use Rattle.frame_rows.specs.SameRules.{HasRules, IsBodyOf, IsBodyWith, HasRulesOf, IsRowWith, KeepsRules, KnowsRows}
 use Rattle.frame_rows.specs.TableRows.{HasBody, Pushes, kept_in}
 use Rattle.unwind_arch.specs.declared.register.Register.{Register as Column}
 use Rattle.frame_rows.specs.declared.machine.Machine.{Machine}
@@ -91,8 +91,24 @@ module _ (rs : List (Column × RegisterRule)) where
       go (Ok cfa) own size h = h
       go (Err e) own size h = absurd h
 
+  -- a body that has its rules where another has its own has the rules that this one is said to have
+  pub rules_like : (ks : List RowBody) (b : RowBody) (o : Option ℕ) (rules : List (ℕ × Rule)) → HasRulesOf ks o b → IsBodyWith (map (body_in rs) ks) o rules → body_rules rs b ≡ rules
+  rules_like ks b o rules has w =
+      let p = has.place in
+      let with = subst (λ o. IsBodyWith (map (body_in rs) ks) o rules) has.is w in
+      let there = subst (λ (r : Result RowValue Fault). HasRules r rules) (get_or-map (body_in rs) ks p b (Err NoCfaRegister) has.within) (with.1 (Err NoCfaRegister)) in
+      let those : body_rules rs (get_or ks p b) ≡ rules = has_those (get_or ks p b) rules there in
+      rw (has.first b, has.end b) at those
+
+  -- the body at a place says what it holds
+  pub says_at : (ks : List RowBody) (place : ℕ) (b : RowBody) (answer : Result RowValue Fault) → place < length ks → ((d : RowBody) → b ≡ get_or ks place d) → body_in rs b ≡ answer → Says (map (body_in rs) ks) place answer
+  says_at ks place b answer lt at is = record {
+    within = let n = length-map ks (body_in rs) in omega arith;
+    there = λ d. get_or-map (body_in rs) ks place b d lt ∙ ap (body_in rs) (sym (at b)) ∙ is;
+  }
+
   abbrev like : RowBody → Result CodedCfa Fault → ℕ → RowBody
-  like b cfa size = record { cfa = cfa; saved_args_size = size; first_rule = b.first_rule; end_rule = b.end_rule }
+  like b cfa size = record { cfa = cfa; saved_args_size = size; first_rule = b.first_rule; end_rule = b.end_rule; reach = b.reach }
 
   -- one more that has its rules where another has its own
   pub grown_like : (ks : List RowBody) (place : ℕ) (b : RowBody) (cfa : Result CodedCfa Fault) (size : ℕ) (rules : List (ℕ × Rule)) → b ≡ get_or ks place b → IsBodyWith (map (body_in rs) ks) (Some place) rules →

@@ -18,7 +18,7 @@ use Rattle.frame_rows.specs.declared.row_table.RowLimits.{RowLimits}
 use Rattle.frame_rows.specs.declared.row_table.RowRange.{RowRange}
 use Rattle.frame_rows.specs.declared.row_table_builder.RowTableBuilder.{RowTableBuilder}
 use Rattle.frame_rows.specs.declared.known_programs.KnownProgram.{KnownProgram}
-use Rattle.frame_rows.proofs.Adding.{IsKeptWhole}
+use Rattle.frame_rows.specs.Adding.{IsKeptWhole}
 use Rattle.frame_rows.proofs.ByBytes.{program_by_bytes}
 use Rattle.frame_rows.proofs.Moved.{count_moved, distances, from, from_injective, placed_locations, reached_moved, rises, row_moved, rows_moved}
 use Rattle.frame_rows.proofs.Parts.{as_long, length-part, part_added, part_stays}

@@ -2,6 +2,7 @@
 use Rattle.std.specs.Prelude.{◌≡◌, ℕ, ◌+◌, ◌<◌, ◌≤◌, List, ◌++◌, length, map, slice_range, slice_index_or, Result, Ok, Err}
 use Rattle.unwind_definitions.specs.declared.error.Error.{Error as Fault}
 use Rattle.unwind_definitions.specs.Instructions.{Rule}
+use Rattle.frame_rows.specs.Reach.{IsReach}
 use Rattle.frame_rows.specs.Rules.{entry_of, cfa_meaning, AscendsFrom}
 use Rattle.frame_rows.specs.RowValue.{RowValue}
 use Rattle.unwind_arch.specs.declared.register.Register.{Register as Column}
@@ -20,12 +21,13 @@ kept_answer (Err e) rules size = Err e
 abbrev pub body_in : List (Column × RegisterRule) → RowBody → Result RowValue Fault
 body_in rules b = kept_answer b.cfa (body_rules rules b) b.saved_args_size
 
--- a body's rules are among those of all, at most 32, by ascending column
+-- a body's rules are among those of all, at most 32, by ascending column, and reach as far as it says
 pub record IsInRules (rules : List (Column × RegisterRule)) (b : RowBody) : Type 0 where
   pub ordered : b.first_rule ≤ b.end_rule
   pub within : b.end_rule ≤ length rules
   pub few : b.end_rule ≤ b.first_rule + 32
   pub ascending : AscendsFrom 0 (body_rules rules b)
+  pub reached : IsReach b.reach (body_rules rules b)
 
 -- what stands among bodies stays at its place
 pub record Grows (old new : List (Result RowValue Fault)) : Type 0 where

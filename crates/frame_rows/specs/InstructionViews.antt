@@ -30,6 +30,8 @@ short_meaning short.Nop = Nop
 short_meaning (short.Advance delta) = Advance delta
 short_meaning (short.Save register offset) = Write register.0 (Offset offset)
 short_meaning (short.DefineCfaOffset offset) = CfaOffset offset
+short_meaning short.RememberState = Remember
+short_meaning short.RestoreState = Restore
 
 abbrev pub coding_in : CodeCoding → Coding
 coding_in c = record { code_factor = c.code_factor; data_factor = c.data_factor; address = c.address.0; bases = bases_of c.bases.now }

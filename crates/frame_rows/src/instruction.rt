@@ -54,6 +54,8 @@ pub(crate) enum ShortInstruction {
     /// Says where the word that a register had is kept, as an offset from the CFA.
     Save { register: Register, offset: u64 },
     DefineCfaOffset(u64),
+    RememberState,
+    RestoreState,
 }
 
 #[inline(always)]
@@ -309,8 +311,8 @@ pub(crate) fn read_instruction<'a>(
 }
 
 /// The next instruction, where it is one of those that most programs consist of: `DW_CFA_nop`,
-/// `DW_CFA_def_cfa_offset`, `DW_CFA_offset`, or `DW_CFA_advance_loc` by a word. Else the cursor is
-/// unspecified.
+/// `DW_CFA_def_cfa_offset`, `DW_CFA_offset`, `DW_CFA_remember_state`, `DW_CFA_restore_state`, or an
+/// advance by a word whose operand has two bytes at most. Else the cursor is unspecified.
 #[tactic(auto, unfolding(crate::specs::InstructionViews::operation_read, crate::specs::InstructionViews::cfa_read, crate::specs::InstructionViews::offset_read, crate::specs::InstructionViews::rule_read, crate::specs::InstructionViews::state_read, unwind_definitions::specs::Instructions::instruction_of))]
 #[inline(always)]
 pub(crate) fn read_short(input: &mut Cursor<'_>, coding: Coding) -> Option<ShortInstruction>
@@ -334,6 +336,16 @@ pub(crate) fn read_short(input: &mut Cursor<'_>, coding: Coding) -> Option<Short
                 Some(ShortInstruction::DefineCfaOffset(input.read_uleb128().ok()?))
             }
             DW_CFA_NOP => Some(ShortInstruction::Nop),
+            DW_CFA_REMEMBER_STATE => Some(ShortInstruction::RememberState),
+            DW_CFA_RESTORE_STATE => Some(ShortInstruction::RestoreState),
+            DW_CFA_ADVANCE_LOC1 => {
+                let delta = u64::from(input.read_u8().ok()?);
+                Some(ShortInstruction::Advance(delta.checked_mul(coding.code_factor)?))
+            }
+            DW_CFA_ADVANCE_LOC2 => {
+                let delta = u64::from(input.read_u16().ok()?);
+                Some(ShortInstruction::Advance(delta.checked_mul(coding.code_factor)?))
+            }
             _ => None,
         },
         _ => None,

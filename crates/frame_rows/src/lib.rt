@@ -12,18 +12,22 @@
 #![tactic(auto)]
 
 mod begun;
+mod body_run;
 mod coding;
 pub mod constants;
 mod instruction;
 mod known_common;
 mod known_programs;
+mod known_steps;
 mod machine;
 mod program;
+mod reach;
 mod register;
 mod room;
 mod row;
 mod row_bodies;
 mod row_ref;
+mod row_steps;
 mod row_table;
 mod row_table_builder;
 mod row_walk;

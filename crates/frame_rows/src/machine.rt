@@ -338,7 +338,7 @@ impl<'a> Machine<'a> {
         }
     }
 
-    fn remember_state(&mut self) -> Result<(), Error>
+    pub(crate) fn remember_state(&mut self) -> Result<(), Error>
         ensures follows { (start : ℕ) (run : RowInstructions) → Represents start self.old run →
             Follows start run Remember result self.new }
         ensures rows { (rows : List Kept) → KnowsRows rows self.old → KnowsRows rows self.new }
@@ -351,7 +351,7 @@ impl<'a> Machine<'a> {
         Ok(())
     }
 
-    fn restore_state(&mut self) -> Result<(), Error>
+    pub(crate) fn restore_state(&mut self) -> Result<(), Error>
         ensures follows { (start : ℕ) (run : RowInstructions) → Represents start self.old run →
             Follows start run Restore result self.new }
         ensures rows { (rows : List Kept) → KnowsRows rows self.old → KnowsRows rows self.new }

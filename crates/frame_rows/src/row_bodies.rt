@@ -7,8 +7,10 @@ ghost use Rattle.unwind_definitions.specs.Instructions.{Rule};
 ghost use Rattle.frame_rows.specs.RowValue.{RowValue};
 ghost use Rattle.frame_rows.specs.Rules.{entry_of, rule_meaning, AscendsFrom};
 ghost use Rattle.frame_rows.specs.Bodies.{Grows, IsInRules, Says, body_in, kept_answer};
+ghost use Rattle.frame_rows.specs.KeptRows.{Ascends, answer_rule_count};
 ghost use Rattle.frame_rows.specs.SameRules.{HasRulesOf, IsBodyWith};
 
+use crate::reach::reach_of;
 use crate::row_ref::RowRef;
 use crate::rule::{CfaRule, RegisterRule};
 use std::alloc::{AllocError, Global};
@@ -35,6 +37,8 @@ pub(crate) struct RowBody<'a> {
     saved_args_size: u64,
     first_rule: usize,
     end_rule: usize,
+    // how far below the CFA its rules reach, 0 where that isn't known
+    reach: u64,
 }
 
 /// The bodies of rows, and the rules of all of them in one list.
@@ -137,6 +141,21 @@ impl<'a> RowBodies<'a> {
         ensures { (d : Result RowValue Fault) → result ≡ slice_index_or self.now place d }
     {
         kept_body(&self.rules, self.bodies[place])
+    }
+
+    /// How many rules the body at a place has.
+    #[inline(always)]
+    pub(crate) fn rule_count(&self, place: usize) -> usize
+        requires { place < length self.now }
+        ensures count { (d : Result RowValue Fault) →
+            result ≡ answer_rule_count (slice_index_or self.now place d) }
+        ensures ascends { (d : Result RowValue Fault) → Ascends (slice_index_or self.now place d) }
+        ensures few { result ≤ 32 }
+    {
+        match self.get(place) {
+            Ok(row) => row.entries().len(),
+            Err(_) => 0,
+        }
     }
 
     /// Where a body stands. One that isn't found by what it says is added, and known from then on.
@@ -303,12 +322,14 @@ impl<'a> RowBodies<'a> {
             saved_args_size: _,
             first_rule,
             end_rule,
+            reach,
         } = self.bodies[place];
         self.bodies.push(RowBody {
             cfa,
             saved_args_size,
             first_rule,
             end_rule,
+            reach,
         })?;
         Ok(())
     }
@@ -328,12 +349,14 @@ impl<'a> RowBodies<'a> {
     {
         let first_rule = self.rules.len();
         let end_rule = first_rule + rules.len();
+        let reach = reach_of(rules);
         self.rules.extend_from_slice(rules)?;
         self.bodies.push(RowBody {
             cfa,
             saved_args_size,
             first_rule,
             end_rule,
+            reach,
         })?;
         Ok(())
     }
@@ -362,10 +385,11 @@ fn kept_body<'r, 'a>(
     ensures { result ≡ body_in rules.now body.entry }
 {
     match body.cfa {
-        Ok(cfa) => Ok(RowRef::new(
+        Ok(cfa) => Ok(RowRef::with_reach(
             cfa,
             &rules[body.first_rule..body.end_rule],
             body.saved_args_size,
+            body.reach,
         )),
         Err(e) => Err(e),
     }

@@ -1,6 +1,7 @@
 //! Rows whose rules stand elsewhere. DWARF 5 section 6.4.1.
 
 ghost use Rattle.std.specs.Prelude.{◌≡◌, ◌≤◌, length, map};
+ghost use Rattle.frame_rows.specs.Reach.{IsReach};
 ghost use Rattle.frame_rows.specs.RoomRow.{no_row};
 ghost use Rattle.frame_rows.specs.Rules.{entry_of, cfa_meaning, AscendsFrom};
 
@@ -19,6 +20,8 @@ pub struct RowRef<'r, 'a> {
     cfa: CfaRule<'a>,
     rules: &'r [(Register, RegisterRule<'a>)],
     saved_args_size: u64,
+    // how far below the CFA the rules reach, 0 where that isn't known
+    reach: u64,
 }
 
 impl<'r, 'a> Model for RowRef<'r, 'a> {
@@ -35,7 +38,10 @@ impl<'r, 'a> Model for RowRef<'r, 'a> {
       saved_args_size = a.saved_args_size;
     } };
 
-    ghost invariant = { λ a. AscendsFrom 0 (map entry_of a.rules.now) × (length a.rules.now ≤ 32) };
+    ghost use Rattle.frame_rows.specs.Reach.{IsReach};
+
+    ghost invariant = { λ a. AscendsFrom 0 (map entry_of a.rules.now) × (length a.rules.now ≤ 32)
+        × IsReach a.reach (map entry_of a.rules.now) };
 }
 
 impl<'r, 'a> RowRef<'r, 'a> {
@@ -54,10 +60,30 @@ impl<'r, 'a> RowRef<'r, 'a> {
           saved_args_size = saved_args_size;
         } }
     {
+        RowRef::with_reach(cfa, rules, saved_args_size, 0)
+    }
+
+    /// The same, where it is known how far below the CFA the rules reach.
+    pub(crate) fn with_reach(
+        cfa: CfaRule<'a>,
+        rules: &'r [(Register, RegisterRule<'a>)],
+        saved_args_size: u64,
+        reach: u64,
+    ) -> RowRef<'r, 'a>
+        requires ascending { AscendsFrom 0 (map entry_of rules.now) }
+        requires fits { length rules.now ≤ 32 }
+        requires reach { IsReach reach (map entry_of rules.now) }
+        ensures { result ≡ record {
+          cfa = cfa_meaning cfa.entry;
+          rules = map entry_of rules.now;
+          saved_args_size = saved_args_size;
+        } }
+    {
         RowRef {
             cfa,
             rules,
             saved_args_size,
+            reach,
         }
     }
 
@@ -72,6 +98,7 @@ impl<'r, 'a> RowRef<'r, 'a> {
             },
             rules: &[],
             saved_args_size: 0,
+            reach: 0,
         }
     }
 
@@ -91,13 +118,21 @@ impl<'r, 'a> RowRef<'r, 'a> {
         Registers::over(self.rules)
     }
 
-    // The same, as they stand.
-    pub(crate) fn entries(&self) -> &'r [(Register, RegisterRule<'a>)]
+    /// The same, as they stand.
+    pub fn entries(&self) -> &'r [(Register, RegisterRule<'a>)]
         ensures rules { map entry_of result.now ≡ self.now.rules }
         ensures ascending { AscendsFrom 0 self.now.rules }
         ensures count { length result.now ≤ 32 }
     {
         self.rules
+    }
+
+    /// How many bytes below the CFA hold all that the rules say is saved, where they say nothing else
+    /// and of no register but x86-64's general ones and its return address. 0 where that isn't known.
+    pub fn reach(&self) -> u64
+        ensures { IsReach result self.now.rules }
+    {
+        self.reach
     }
 
     /// How many bytes of the stack hold arguments that the callee removes.

@@ -10,14 +10,27 @@ ghost use Rattle.frame_rows.specs.KeptRows.{Ascends, IsLonger, answer_rule_count
 ghost use Rattle.frame_rows.specs.Rules.{entry_of, AscendsFrom};
 ghost use Rattle.frame_rows.specs.Rows.{GivesRow};
 ghost use Rattle.frame_rows.specs.Bodies.{kept_answer};
+ghost use Rattle.unwind_definitions.specs.Instructions.{Program, program};
+ghost use Rattle.unwind_definitions.specs.Row.{from_common};
+ghost use Rattle.encoded_pointers.specs.CursorViews.{at};
+ghost use Rattle.frame_rows.specs.BodyRuns.{AddsRun};
+ghost use Rattle.frame_rows.specs.InstructionViews.{coding_in};
+ghost use Rattle.frame_rows.specs.Rows.{IsRowOf};
+ghost use Rattle.frame_rows.specs.Running.{Represents, outcome};
+ghost use Rattle.frame_rows.specs.declared.machine.Machine.{Machine};
+ghost use Rattle.std.specs.Prelude.{None, Ok, true};
 ghost use Rattle.frame_rows.specs.TableRows.{HoldsAt, IsLastAt, Pushes};
 ghost use Rattle.frame_rows.specs.Again.{CountsAgain};
 ghost use Rattle.frame_rows.specs.SameRules.{IsBodyOf, IsRowWith};
 
+use crate::body_run::{BodyRun, RunEnd, run_bodies};
+use crate::coding::Coding;
 use crate::known_programs::KnownProgram;
-use crate::row_bodies::{KnownBodies, RowBodies};
+use crate::row_bodies::KnownBodies;
 use crate::row_ref::RowRef;
+use crate::row_steps::SteppedBodies;
 use crate::rule::{CfaRule, RegisterRule};
+use encoded_pointers::Cursor;
 use std::alloc::{AllocError, Global};
 use std::marker::Model;
 use unwind_arch::Register;
@@ -42,12 +55,23 @@ pub struct RowRange {
     pub end: u32,
 }
 
+/// What adding the rows of a program that runs from body to body does.
+#[derive(Clone, Copy)]
+pub(crate) enum Added {
+    /// They are added, and an instruction leads past the range.
+    Past,
+    /// They are added, and the program ended at a location.
+    Ended(u64),
+    /// None is added.
+    Nothing,
+}
+
 // How far after its function's start a row or a fault begins to hold, and where among the bodies
 // its own stands.
 #[derive(Clone, Copy)]
 pub(crate) struct TableRow {
-    distance: u64,
-    body: usize,
+    pub(crate) distance: u64,
+    pub(crate) body: usize,
 }
 
 /// The rows of several descriptions, each with the distance from its function's start from which on
@@ -59,7 +83,7 @@ pub(crate) struct TableRow {
 #[derive(Drop)]
 pub struct RowTable<'a> {
     rows: Vec<TableRow>,
-    bodies: RowBodies<'a>,
+    bodies: SteppedBodies<'a>,
     // how many rows the descriptions have together, where those that some share count for each, and
     // how many rules these have
     row_count: u32,
@@ -89,7 +113,7 @@ impl<'a> RowTable<'a> {
     {
         RowTable {
             rows: Vec::new(alloc),
-            bodies: RowBodies::new(alloc),
+            bodies: SteppedBodies::new(alloc),
             row_count: 0,
             rule_count: 0,
         }
@@ -177,6 +201,72 @@ impl<'a> RowTable<'a> {
         }
     }
 
+    /// Adds the rows of a description whose program runs from body to body, from the row that its
+    /// common information entry's ended with. None is added where it doesn't run so, or where they
+    /// would be too many.
+    #[inline(never)]
+    pub(crate) fn add_run(
+        &mut self,
+        known: &mut KnownBodies,
+        row: RowRef<'_, 'a>,
+        own: Cursor<'a>,
+        coding: Coding,
+        start: u64,
+        end: u64,
+        limits: RowLimits,
+    ) -> Result<Added, AllocError>
+        requires { start < end }
+        ensures grows { IsLonger self.old.rows self.new.rows }
+        ensures runs { (common : Program) (first : RowInstructions) (m : Machine) →
+            let own = program (coding_in coding.entry) (at own.entry) in
+            outcome 0 None (from_common []) common ≡ Ok first →
+            Represents start m (from_common common.instructions) →
+            IsRowOf row.entry (from_common common.instructions) →
+            AddsRun limits start end common own self.old result self.new }
+    {
+        let before = self.rows.len();
+        let place = self.bodies.keep(
+            known,
+            Ok(row.cfa()),
+            row.entries(),
+            row.saved_args_size(),
+            None,
+        )?;
+        let mut run = BodyRun {
+            rest: own.bytes(),
+            location: start,
+            place,
+            remembered: None,
+            rule_count: self.rule_count as u64,
+        };
+        let ended = run_bodies(
+            &mut self.bodies,
+            known,
+            &mut self.rows,
+            &mut run,
+            coding,
+            start,
+            end,
+        );
+        let row_count = self.row_count as usize + (self.rows.len() - before);
+        match ended {
+            Ok(RunEnd::Past) if fit(limits, row_count, run.rule_count) => {
+                self.row_count = row_count as u32;
+                self.rule_count = run.rule_count as u32;
+                Ok(Added::Past)
+            }
+            Ok(RunEnd::Ended) if fit(limits, row_count, run.rule_count) => {
+                self.row_count = row_count as u32;
+                self.rule_count = run.rule_count as u32;
+                Ok(Added::Ended(run.location))
+            }
+            _ => {
+                self.rows.truncate(before);
+                Ok(Added::Nothing)
+            }
+        }
+    }
+
     /// Counts the rows of a program that is known, for one more description that has them. `None`
     /// where they would be too many.
     #[inline(always)]
@@ -233,6 +323,14 @@ impl<'a> RowTable<'a> {
         self.rule_count = rule_count as u32;
         Ok(true)
     }
+}
+
+// Whether a table may hold so many rows and rules.
+fn fit(limits: RowLimits, rows: usize, rules: u64) -> bool
+    ensures rows { result ≡ true → rows ≤ limits.rows }
+    ensures rules { result ≡ true → rules ≤ limits.rules }
+{
+    rows <= limits.rows as usize && rules <= limits.rules as u64
 }
 
 // Where the body of the row at an index stands.

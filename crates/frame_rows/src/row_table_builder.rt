@@ -8,6 +8,7 @@ ghost use Rattle.frame_rows.specs.InstructionViews.{coding_in};
 ghost use Rattle.frame_rows.specs.KeptRows.{Adds, IsLonger};
 ghost use Rattle.frame_rows.specs.Begun.{HasBegun, HasBegunBefore};
 ghost use Rattle.frame_rows.specs.BegunPrograms.{before_last, last};
+ghost use Rattle.frame_rows.specs.BodyRuns.{AddsOrNot};
 ghost use Rattle.frame_rows.specs.KnownRows.{AreKnown, NotesUnless};
 ghost use Rattle.frame_rows.specs.Running.{IsEndOf, Represents, outcome};
 ghost use Rattle.frame_rows.specs.TableRows.{Keeps};
@@ -19,7 +20,7 @@ use crate::known_programs::KnownProgram;
 use crate::machine::Machine;
 use crate::program::run_common;
 use crate::row_bodies::KnownBodies;
-use crate::row_table::{RowLimits, RowRange, RowTable};
+use crate::row_table::{Added, RowLimits, RowRange, RowTable};
 use crate::stretch::{Instructions, run_stretch};
 use encoded_pointers::Cursor;
 use std::alloc::{AllocError, Global};
@@ -193,7 +194,66 @@ impl<'a> RowTableBuilder<'a> {
         ensures grows { IsLonger self.old.table.rows self.new.table.rows }
     {
         self.machine.begin_after(&self.begun.last().state, start);
+        if let Some(rows) = self.add_run(own, coding, start, end)? {
+            return Ok(Some(rows));
+        }
         self.add_rows(own, coding, start, end)
+    }
+
+    // Adds the rows of a description whose program runs from body to body. `None` where it doesn't:
+    // then none is added.
+    fn add_run(
+        &mut self,
+        own: Cursor<'a>,
+        coding: Coding,
+        start: u64,
+        end: u64,
+    ) -> Result<Option<RowRange>, AllocError>
+        requires { start < end }
+        ensures rows { (common : Program) (run : RowInstructions) →
+            outcome 0 None (from_common []) common ≡ Ok run →
+            Represents start self.old.machine (from_common common.instructions) →
+            AddsOrNot self.old.limits start end common
+            (program (coding_in coding.entry) (at own.entry)) self.old.table result self.new.table }
+        ensures machine { self.new.machine ≡ self.old.machine }
+        ensures limits { self.new.limits ≡ self.old.limits }
+        ensures state { (last self.new.begun).state ≡ (last self.old.begun).state }
+        ensures fault { (last self.new.begun).fault ≡ (last self.old.begun).fault }
+        ensures known { (common : Program) (run : RowInstructions) →
+            outcome 0 None (from_common []) common ≡ Ok run →
+            Represents start self.old.machine (from_common common.instructions) →
+            AreKnown common self.old.table.rows (last self.old.begun).known →
+            AreKnown common self.new.table.rows (last self.new.begun).known }
+        ensures before { before_last self.new.begun ≡ before_last self.old.begun }
+        ensures grows { IsLonger self.old.table.rows self.new.table.rows }
+    {
+        let (first, first_rule) = (self.table.end(), self.table.rule_count());
+        let Ok(row) = self.machine.row() else {
+            return Ok(None);
+        };
+        let added = self
+            .table
+            .add_run(&mut self.known, row, own, coding, start, end, self.limits)?;
+        let rows = RowRange {
+            first,
+            end: self.table.end(),
+        };
+        match added {
+            Added::Nothing => Ok(None),
+            Added::Past => Ok(Some(rows)),
+            Added::Ended(location) => {
+                let known = KnownProgram {
+                    bytes: own.bytes(),
+                    code_factor: coding.code_factor,
+                    data_factor: coding.data_factor,
+                    reach: location.saturating_sub(start),
+                    rows,
+                    rule_count: self.table.rule_count().saturating_sub(first_rule),
+                };
+                self.note(known, false)?;
+                Ok(Some(rows))
+            }
+        }
     }
 
     // Adds the rows of a description whose own program is to run.
@@ -269,6 +329,7 @@ impl<'a> RowTableBuilder<'a> {
         ensures notes { NotesUnless sets_location (last self.old.begun).known known.entry
             (last self.new.begun).known }
         ensures before { before_last self.new.begun ≡ before_last self.old.begun }
+        ensures machine { self.new.machine ≡ self.old.machine }
         ensures table { self.new.table ≡ self.old.table }
         ensures limits { self.new.limits ≡ self.old.limits }
     {

@@ -149,6 +149,16 @@ impl<'a> RegisterRules<'a> {
         self.entries.clear();
     }
 
+    /// Puts these rules in place of its own. Places that aren't used aren't written.
+    pub(crate) fn put(&mut self, entries: &[(Register, RegisterRule<'a>)])
+        requires ascending { AscendsFrom 0 (map entry_of entries.now) }
+        requires fits { length entries.now ≤ 32 }
+        ensures { self.new ≡ map entry_of entries.now }
+    {
+        self.entries.clear();
+        let _fits = self.entries.try_extend_from_slice(entries);
+    }
+
     /// Puts the rules of another list in place of its own. Places that aren't used aren't written.
     pub(crate) fn assign(&mut self, other: &RegisterRules<'a>)
         ensures { self.new ≡ other.now }

@@ -89,6 +89,7 @@ impl<'a> Instructions<'a> {
 }
 
 /// What a turn of running a program does.
+#[derive(Clone, Copy)]
 pub(crate) enum Turn {
     /// An instruction was read and has run.
     Ran,
@@ -188,6 +189,8 @@ fn run_short<'a>(machine: &mut Machine<'a>, short: ShortInstruction) -> Result<T
             machine.set_rule(register, RegisterRule::Offset(offset))?;
         }
         ShortInstruction::DefineCfaOffset(offset) => machine.set_cfa_offset(offset)?,
+        ShortInstruction::RememberState => machine.remember_state()?,
+        ShortInstruction::RestoreState => machine.restore_state()?,
     }
     Ok(Turn::Ran)
 }

@@ -20,7 +20,7 @@ invariant_of-self-2 c =
     let rules = c.in_ok-extend_from_slice.ensures.items in
     let first : c.len-first_rule.result ≡ length c.self.inside.rules.items = c.len-first_rule.ensures ∙ c.self.inside.rules.ok.0 in
     rw (bodies, rules, first)
-    (all_in c.self.inside.rules.items c.args.rules.now c.args.cfa c.args.saved_args_size c.self.inside.bodies.items c.self.invariant c.requires.ascending c.requires.few)
+    (all_in c.self.inside.rules.items c.args.rules.now c.args.cfa c.args.saved_args_size c.reach_of-reach.result c.self.inside.bodies.items c.self.invariant c.requires.ascending c.requires.few c.reach_of-reach.ensures)
 
 pub returns-clause-added : goal.returns-clause-added
 returns-clause-added c =
@@ -28,4 +28,4 @@ returns-clause-added c =
     let rules = c.in_ok-extend_from_slice.ensures.items in
     let first : c.len-first_rule.result ≡ length c.self.inside.rules.items = c.len-first_rule.ensures ∙ c.self.inside.rules.ok.0 in
     rw (bodies, rules, first, sym c.self.view_is)
-    (grown c.self.inside.rules.items c.args.rules.now c.args.cfa c.args.saved_args_size c.self.inside.bodies.items c.self.invariant)
+    (grown c.self.inside.rules.items c.args.rules.now c.args.cfa c.args.saved_args_size c.reach_of-reach.result c.self.inside.bodies.items c.self.invariant)

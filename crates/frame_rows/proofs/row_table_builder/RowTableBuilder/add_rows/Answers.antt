@@ -14,7 +14,8 @@ use Rattle.frame_rows.specs.TableRows.{Keeps}
 use Rattle.frame_rows.specs.declared.machine.Machine.{Machine}
 use Rattle.frame_rows.specs.declared.row_table.RowLimits.{RowLimits}
 use Rattle.frame_rows.specs.declared.row_table.RowRange.{RowRange}
-use Rattle.frame_rows.proofs.Adding.{IsAdding, begin, kept_too_many, kept_at_end, kept_fault, kept_past, kept_on, kept_whole, ranged}
+use Rattle.frame_rows.specs.Adding.{IsAdding}
+use Rattle.frame_rows.proofs.Adding.{begin, kept_too_many, kept_at_end, kept_fault, kept_past, kept_on, kept_whole, ranged}
 use Rattle.frame_rows.proofs.Serving.{is_known, noted_unless, still_known}
 use Rattle.frame_rows.proofs.Parts.{as_long, longer_still}
 use Rattle.frame_rows.proofs.SameRows.{knows_longer}

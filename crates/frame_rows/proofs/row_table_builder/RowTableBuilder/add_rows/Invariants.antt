@@ -8,7 +8,7 @@ use Rattle.frame_rows.specs.Movable.{IsMovable}
 use Rattle.frame_rows.specs.Running.{Represents, outcome}
 use Rattle.frame_rows.specs.SameRules.{KnowsRows}
 use Rattle.frame_rows.specs.Stretches.{left_of}
-use Rattle.frame_rows.proofs.Adding.{IsAdding}
+use Rattle.frame_rows.specs.Adding.{IsAdding}
 use Rattle.frame_rows.proofs.row_table_builder.RowTableBuilder.add_rows.Given as goal
 
 -- rows are kept up to a location, from which on the machine runs

@@ -1,0 +1,46 @@
+-- What instructions make of bodies. No public clause cites this.
+use Rattle.std.specs.Prelude.{◌≡◌, ℕ, ◌<◌, List, length, Option, Some, None, Result, Ok}
+use Rattle.std.specs.List.{AllByRecursion}
+use Rattle.unwind_definitions.specs.declared.error.Error.{Error as Fault}
+use Rattle.unwind_definitions.specs.Instructions.{Instruction, Offset, Write, CfaOffset}
+use Rattle.unwind_definitions.specs.Row.{RowInstructions, fault_of}
+use Rattle.frame_rows.specs.Bodies.{Says, kept_answer}
+use Rattle.frame_rows.specs.RowValue.{RowValue}
+use Rattle.frame_rows.specs.Running.{Represents, push}
+use Rattle.frame_rows.specs.declared.known_steps.KnownStep.{KnownStep}
+use Rattle.frame_rows.specs.declared.machine.Machine.{Machine}
+use Rattle.frame_rows.specs.declared.machine.RowState.{RowState}
+use Rattle.frame_rows.specs.declared.rule.CfaRule.{CfaRule as CodedCfa}
+
+-- the body at a place is the row of a state
+pub record IsStateAt (bodies : List (Result RowValue Fault)) (place : ℕ) (state : RowState) : Type 0 where
+  pub cfa : CodedCfa
+  pub has : state.cfa ≡ Some cfa
+  pub says : Says bodies place (kept_answer (Ok cfa) state.rules state.saved_args_size)
+
+-- the body at a place is the row of a state that is remembered, or none is
+abbrev pub IsMemoryAt : List (Result RowValue Fault) → Option ℕ → Option RowState → Type 0
+IsMemoryAt bodies None None = Unit {0}
+IsMemoryAt bodies (Some place) (Some state) = IsStateAt bodies place state
+IsMemoryAt bodies None (Some state) = ⊥
+IsMemoryAt bodies (Some place) None = ⊥
+
+-- where a machine's row is one body, it is another one after an instruction, which is no fault
+pub record MakesBody (bodies : List (Result RowValue Fault)) (i : Instruction) (from to : ℕ) : Type 0 where
+  pub within : from < length bodies
+  pub there : to < length bodies
+  pub makes : (start : ℕ) (m : Machine) (run : RowInstructions) → Represents start m run → IsStateAt bodies from m.state → (t : RowState) × IsStateAt bodies to t × (fault_of start run i ≡ None) × Represents start (record m { state = t }) (push run i)
+
+-- what the operands of two kinds of steps stand for
+abbrev pub offset_step : KnownStep → Instruction
+offset_step step = CfaOffset step.offset
+
+abbrev pub save_step : KnownStep → Instruction
+save_step step = Write step.register.0 (Offset step.offset)
+
+abbrev pub IsStepOf : (KnownStep → Instruction) → List (Result RowValue Fault) → Option KnownStep → Type 0
+IsStepOf kind bodies None = Unit {0}
+IsStepOf kind bodies (Some step) = MakesBody bodies (kind step) step.from step.to
+
+abbrev pub AreSteps : (KnownStep → Instruction) → List (Result RowValue Fault) → List (Option KnownStep) → Type 0
+AreSteps kind bodies slots = AllByRecursion (IsStepOf kind bodies) slots

@@ -1,0 +1,277 @@
+//! Running a frame program from one body of a row to another. DWARF 5 section 6.4.3.
+
+ghost use Rattle.std.specs.Prelude.{[], ◌≡◌, ◌<◌, ◌≤◌, ℕ, IfOk, IfSome, None, Ok, length, take};
+ghost use Rattle.std.specs.List.{AllByRecursion};
+ghost use Rattle.unwind_definitions.specs.Instructions.{Program};
+ghost use Rattle.unwind_definitions.specs.Row.{RowInstructions};
+ghost use Rattle.frame_rows.specs.InstructionViews.{coding_in, short_meaning};
+ghost use Rattle.unwind_definitions.specs.Row.{from_common};
+ghost use Rattle.frame_rows.specs.Bodies.{Grows};
+ghost use Rattle.frame_rows.specs.BodyRuns.{IsRunning, RunsTo};
+ghost use Rattle.frame_rows.specs.KeptRows.{KeptRows};
+ghost use Rattle.frame_rows.specs.Running.{Represents, outcome};
+ghost use Rattle.frame_rows.specs.TableRows.{HasBody};
+ghost use Rattle.frame_rows.specs.Stepping.{IsLeft, IsWithin, StandsAfter, StandsFor, TakesTurn};
+ghost use Rattle.frame_rows.specs.declared.machine.Machine.{Machine};
+
+use crate::coding::Coding;
+use crate::instruction::{ShortInstruction, read_short};
+use crate::row_bodies::KnownBodies;
+use crate::row_steps::SteppedBodies;
+use crate::row_table::TableRow;
+use crate::stretch::Turn;
+use encoded_pointers::Cursor;
+use std::alloc::AllocError;
+
+// How many rules a table holds at most.
+const MOST_RULES: u64 = 0xffff_ffff;
+
+/// A program that runs, where the row so far and the remembered one are bodies that stand in a list.
+#[derive(Clone, Copy)]
+pub(crate) struct BodyRun<'a> {
+    /// The bytes that are left.
+    pub(crate) rest: &'a [u8],
+    pub(crate) location: u64,
+    pub(crate) place: usize,
+    pub(crate) remembered: Option<usize>,
+    /// How many rules the rows so far have, with those of all others.
+    pub(crate) rule_count: u64,
+}
+
+impl<'a> BodyRun<'a> {
+    /// Reads an instruction, and runs it where it is known what it makes, unless it leads on. `None`
+    /// where it isn't, or can't be read: then it isn't read.
+    #[inline(always)]
+    pub(crate) fn turn(&mut self, bodies: &SteppedBodies<'a>, coding: Coding) -> Option<Turn>
+        ensures turns { IfSome result (λ turn. (start : ℕ) (m : Machine) (run : RowInstructions)
+            (q : Program) → Represents start m run → StandsFor bodies.now self.old m →
+            IsLeft (coding_in coding.entry) self.old.rest.now q →
+            TakesTurn bodies.now (coding_in coding.entry) start run q turn self.new) }
+        ensures within { IsWithin bodies.now self.old → IsWithin bodies.now self.new }
+        ensures fewer { IfSome result (λ _. length self.new.rest.now < length self.old.rest.now) }
+        ensures none { result ≡ None → self.new ≡ self.old }
+        ensures location { self.new.location ≡ self.old.location }
+        ensures rules { self.new.rule_count ≡ self.old.rule_count }
+    {
+        let mut input = Cursor::new(self.rest, 0);
+        let short = read_short(&mut input, coding)?;
+        let rest = input.bytes();
+        if rest.len() >= self.rest.len() {
+            return None;
+        }
+        let turn = self.run(bodies, short)?;
+        self.rest = rest;
+        Some(turn)
+    }
+
+    // Runs an instruction where it is known what it makes, unless it leads on. `None` where it isn't.
+    #[inline(always)]
+    fn run(&mut self, bodies: &SteppedBodies<'a>, short: ShortInstruction) -> Option<Turn>
+        ensures moves { IfSome result (λ turn. (start : ℕ) (m : Machine) (run : RowInstructions) →
+            Represents start m run → StandsFor bodies.now self.old m →
+            StandsAfter bodies.now start run (short_meaning short) turn self.new) }
+        ensures within { IsWithin bodies.now self.old → IsWithin bodies.now self.new }
+        ensures none { result ≡ None → self.new ≡ self.old }
+        ensures rest { self.new.rest ≡ self.old.rest }
+        ensures location { self.new.location ≡ self.old.location }
+        ensures rules { self.new.rule_count ≡ self.old.rule_count }
+    {
+        match short {
+            ShortInstruction::Nop => Some(Turn::Ran),
+            ShortInstruction::Advance(delta) => {
+                if delta == 0 || delta > u64::MAX - self.location {
+                    return None;
+                }
+                Some(Turn::LeadsOn(self.location + delta))
+            }
+            ShortInstruction::Save { register, offset } => {
+                self.place = bodies.with_save(self.place, register, offset)?;
+                Some(Turn::Ran)
+            }
+            ShortInstruction::DefineCfaOffset(offset) => {
+                self.place = bodies.with_offset(self.place, offset)?;
+                Some(Turn::Ran)
+            }
+            ShortInstruction::RememberState => {
+                if self.remembered.is_some() {
+                    return None;
+                }
+                self.remembered = Some(self.place);
+                Some(Turn::Ran)
+            }
+            ShortInstruction::RestoreState => {
+                let place = self.remembered?;
+                self.place = place;
+                self.remembered = None;
+                Some(Turn::Ran)
+            }
+        }
+    }
+}
+
+/// Where a run from body to body ends.
+#[derive(Clone, Copy)]
+pub(crate) enum RunEnd {
+    /// An instruction leads past the range.
+    Past,
+    /// It isn't known what an instruction makes, or none is left.
+    Stopped,
+    /// No instruction is left.
+    Ended,
+    /// There are more rules than a table holds.
+    GivenUp,
+}
+
+impl<'a> BodyRun<'a> {
+    // Lets it be known what the next instruction makes. `false` where it makes no body.
+    #[inline(never)]
+    fn learn(
+        &self,
+        bodies: &mut SteppedBodies<'a>,
+        known: &mut KnownBodies,
+        coding: Coding,
+    ) -> Result<bool, AllocError>
+        requires { self.now.place < length bodies.old }
+        ensures { Grows bodies.old bodies.new }
+    {
+        let mut input = Cursor::new(self.rest, 0);
+        let made = match read_short(&mut input, coding) {
+            Some(ShortInstruction::Save { register, offset }) => {
+                bodies.make_save(known, self.place, register, offset)?
+            }
+            Some(ShortInstruction::DefineCfaOffset(offset)) => {
+                bodies.make_offset(known, self.place, offset)?
+            }
+            _ => None,
+        };
+        Ok(made.is_some())
+    }
+}
+
+// Adds row after row as far as it is known what the instructions make.
+#[inline(never)]
+fn run_known<'a>(
+    bodies: &SteppedBodies<'a>,
+    rows: &mut Vec<TableRow>,
+    run: &mut BodyRun<'a>,
+    coding: Coding,
+    start: u64,
+    end: u64,
+) -> Result<RunEnd, AllocError>
+    requires { IsWithin bodies.now run.old }
+    ensures within { IfOk result (λ _. IsWithin bodies.now run.new) }
+    ensures bodied { AllByRecursion (HasBody bodies.now) rows.old.items →
+        AllByRecursion (HasBody bodies.now) rows.new.items }
+    ensures longer { length rows.old.items ≤ length rows.new.items }
+    ensures before { (n : ℕ) → n ≤ length rows.old.items →
+        take n rows.new.items ≡ take n rows.old.items }
+    ensures runs { (common own : Program) (old : KeptRows) (first : RowInstructions) →
+        let coding = coding_in coding.entry in
+        outcome 0 None (from_common []) common ≡ Ok first →
+        IsRunning start end common own old coding bodies.now rows.old.items run.old →
+        RunsTo start end common own old coding bodies.now result rows.new.items run.new }
+{
+    let mut now = *run;
+    loop {
+        match now.turn(bodies, coding) {
+            Some(Turn::Ran) => {}
+            Some(Turn::LeadsOn(next)) => {
+                if now.rule_count > MOST_RULES {
+                    *run = now;
+                    return Ok(RunEnd::GivenUp);
+                }
+                rows.push(TableRow {
+                    distance: now.location.saturating_sub(start),
+                    body: now.place,
+                })?;
+                now.rule_count += bodies.rule_count(now.place) as u64;
+                now.location = next;
+                if next >= end {
+                    *run = now;
+                    return Ok(RunEnd::Past);
+                }
+            }
+            Some(Turn::Ended) => {
+                *run = now;
+                return Ok(RunEnd::GivenUp);
+            }
+            None => {
+                *run = now;
+                return Ok(RunEnd::Stopped);
+            }
+        }
+    }
+}
+
+// Adds the last row of a run of which no bytes are left.
+fn finish<'a>(
+    bodies: &SteppedBodies<'a>,
+    rows: &mut Vec<TableRow>,
+    run: &mut BodyRun<'a>,
+    coding: Coding,
+    start: u64,
+    end: u64,
+) -> Result<RunEnd, AllocError>
+    requires within { IsWithin bodies.now run.old }
+    requires none { run.old.rest.now ≡ [] }
+    ensures bodied { AllByRecursion (HasBody bodies.now) rows.old.items →
+        AllByRecursion (HasBody bodies.now) rows.new.items }
+    ensures longer { length rows.old.items ≤ length rows.new.items }
+    ensures before { (n : ℕ) → n ≤ length rows.old.items →
+        take n rows.new.items ≡ take n rows.old.items }
+    ensures runs { (common own : Program) (old : KeptRows) (first : RowInstructions) →
+        let coding = coding_in coding.entry in
+        outcome 0 None (from_common []) common ≡ Ok first →
+        IsRunning start end common own old coding bodies.now rows.old.items run.old →
+        RunsTo start end common own old coding bodies.now result rows.new.items run.new }
+{
+    if run.rule_count > MOST_RULES {
+        return Ok(RunEnd::GivenUp);
+    }
+    rows.push(TableRow {
+        distance: run.location.saturating_sub(start),
+        body: run.place,
+    })?;
+    run.rule_count += bodies.rule_count(run.place) as u64;
+    Ok(RunEnd::Ended)
+}
+
+/// Adds the rows of a program that runs from body to body, as far as instructions make bodies: what
+/// they make is known from then on.
+#[inline(never)]
+pub(crate) fn run_bodies<'a>(
+    bodies: &mut SteppedBodies<'a>,
+    known: &mut KnownBodies,
+    rows: &mut Vec<TableRow>,
+    run: &mut BodyRun<'a>,
+    coding: Coding,
+    start: u64,
+    end: u64,
+) -> Result<RunEnd, AllocError>
+    requires within { IsWithin bodies.old run.old }
+    requires bodied { AllByRecursion (HasBody bodies.old) rows.old.items }
+    ensures grows { Grows bodies.old bodies.new }
+    ensures bodied { AllByRecursion (HasBody bodies.new) rows.new.items }
+    ensures longer { length rows.old.items ≤ length rows.new.items }
+    ensures before { (n : ℕ) → n ≤ length rows.old.items →
+        take n rows.new.items ≡ take n rows.old.items }
+    ensures runs { (common own : Program) (old : KeptRows) (first : RowInstructions) →
+        let coding = coding_in coding.entry in
+        outcome 0 None (from_common []) common ≡ Ok first →
+        IsRunning start end common own old coding bodies.old rows.old.items run.old →
+        RunsTo start end common own old coding bodies.new result rows.new.items run.new }
+{
+    for _turn in 0..u64::MAX {
+        match run_known(bodies, rows, run, coding, start, end)? {
+            RunEnd::Stopped => {}
+            ended => return Ok(ended),
+        }
+        if run.rest.is_empty() {
+            return finish(bodies, rows, run, coding, start, end);
+        }
+        if !run.learn(bodies, known, coding)? {
+            return Ok(RunEnd::GivenUp);
+        }
+    }
+    Ok(RunEnd::GivenUp)
+}
