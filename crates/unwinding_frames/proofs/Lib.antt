@@ -13,3 +13,4 @@ pub mod Heads
 pub mod Sites
 pub mod Taken
 pub mod Windows
+mod SavedSlots

@@ -1,10 +1,11 @@
 -- A word in a window is the image's.
 use Rattle.std.proofs.Common.{inl, inr, ◌≡◌, ℕ, ◌+◌, ◌-◌, ◌%◌, ◌^◌, ◌<◌, ◌≤◌, List, [], length, take, drop, Some, refl, sym, ap, ◌∙◌, arith}
 use Rattle.std.proofs.lemmas.Bool.Decides.{leb_tells}
-use Rattle.std.proofs.lemmas.List.{length-drop, take_rest}
+use Rattle.std.proofs.lemmas.List.{drop-drop, length-drop, length-take-le, take_rest}
 use Rattle.memory_image.specs.Image.{Span, IsLaidOut, table_at, word_at}
 use Rattle.memory_image.specs.ImageLaws.{table_at-add, table_past, word_at-table}
-use Rattle.memory_image.specs.Words.{u64_at}
+use Rattle.memory_image.specs.Words.{number_of, u64_at, u64_at-take}
+use Rattle.unwinding_frames.specs.Slots.{AreSlots}
 use Rattle.unwinding_frames.specs.Windows.{IsWindow, AreKeptBytes}
 
 u64_at-drop : (bytes : List ℕ) (k : ℕ) → u64_at (drop k bytes) 0 ≡ u64_at bytes k
@@ -42,6 +43,25 @@ module _ (image : List Span) (start : ℕ) (bytes : List ℕ) (places : ℕ) (wi
       let long : 8 ≤ length (table_at image address) = rw same at (long_there k inside) in
       let table : table_at image address ≡ drop k bytes = rw same at (table_there k inside) in
       word_at-table image address window.laid_out long ∙ rw table (ap Some (u64_at-drop bytes k))
+
+  -- so many bytes below an address, where the lowest and the highest word of them stand in the window
+  pub slots_there : (address size first : ℕ) → address < 2 ^ 64 → size < 2 ^ 64 → 8 ≤ size → first ≡ ((address + (2 ^ 64 - size)) % 2 ^ 64 + (2 ^ 64 - start)) % 2 ^ 64 → first < places → size - 8 < places - first →
+      AreSlots image address size (take size (drop first bytes))
+  unfolding u64_at
+  slots_there address size first small fits long is inside room =
+      let whole = window.whole in
+      let rest : length (drop first bytes) ≡ length bytes - first = length-drop first bytes in
+      record {
+        some = omega arith;
+        whole = length-take-le size (drop first bytes) (omega arith);
+        words = λ n above close.
+            let k : ℕ = n + size - 2 ^ 64 in
+            let last : first + k < places = omega arith in
+            let end : start + (first + k) < 2 ^ 64 = below (first + k) last in
+            let there : word_at image ((address + n) % 2 ^ 64) ≡ Some (u64_at bytes (first + k)) = word_there ((address + n) % 2 ^ 64) (first + k) (omega arith) (omega arith) last in
+            let same : u64_at (take size (drop first bytes)) k ≡ u64_at bytes (first + k) = u64_at-take (drop first bytes) size k (omega arith) ∙ ap (λ l. number_of (take 8 l)) (drop-drop k first bytes) in
+            there ∙ ap Some (sym same);
+      }
 
 -- ---- places
 

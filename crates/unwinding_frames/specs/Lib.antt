@@ -16,3 +16,4 @@ pub mod Personalities
 pub mod Sample
 pub mod Seen
 pub mod Windows
+pub mod Slots

@@ -447,7 +447,7 @@ fn cfa<M: Machine>(
 
 /// Makes a frame's registers its caller's before any rule is applied: the stack pointer is the
 /// canonical frame address, and the return address 0.
-fn begin<M: Machine>(context: &mut M::Context, cfa: u64)
+pub(crate) fn begin<M: Machine>(context: &mut M::Context, cfa: u64)
     ensures { M.Context.columns context.new ≡ value_without_rule (machine_of M.SP.0 M.RA.0)
         (M.Context.columns context.old) cfa }
 {

@@ -15,6 +15,7 @@ mod language_table;
 mod personality;
 mod personality_dummy;
 mod place;
+mod saved_slots;
 mod window;
 
 pub use abi::context::{
@@ -38,4 +39,5 @@ pub use language_table::{EhAction, eh_action_of, find_eh_action, find_eh_action_
 pub use personality::{Personality, RustPersonality};
 pub use personality_dummy::DummyPersonality;
 pub use place::Place;
+pub use saved_slots::step_in_place;
 pub use window::Window;

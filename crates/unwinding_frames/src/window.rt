@@ -2,6 +2,7 @@
 
 ghost use Rattle.std.specs.Prelude.{◌≡◌, ◌<◌, [], Some, IfSome, MatchOption, length};
 ghost use Rattle.memory_image.specs.Image.{table_at, word_at};
+ghost use Rattle.unwinding_frames.specs.Slots.{AreSlots};
 
 use crate::kept_bytes::KeptBytes;
 use memory_image::{MemoryImage, u64_at};
@@ -132,6 +133,21 @@ impl<'i, 'a> Window<'i, 'a> {
             return Some(bytes);
         }
         far_from(self.image, address)
+    }
+
+    /// So many bytes below an address, which all lie where the image was looked up or after it. `None`
+    /// where they don't, or where none is asked for.
+    #[inline(always)]
+    pub fn below(&self, address: u64, size: u64) -> Option<&'a [u8]>
+        ensures { IfSome result (λ slots. AreSlots self.now address size slots.now) }
+    {
+        let first = address.wrapping_sub(size).wrapping_sub(self.start) as usize;
+        let size = size as usize;
+        if size >= 8 && first < self.places && size - 8 < self.places - first {
+            Some(&self.bytes[first..first + size])
+        } else {
+            None
+        }
     }
 
     /// The little-endian number of the eight bytes from the address on, which all lie where the image
