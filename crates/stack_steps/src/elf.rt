@@ -1,6 +1,6 @@
 // Frames by call frame information: what is found for an address of an ELF module, its caller, and
 // its language table. The same where the opcode of a Mach-O module's function points to frame data.
-ghost use Rattle.std.specs.Prelude.{◌≡◌, List, Some, OnErr, length};
+ghost use Rattle.std.specs.Prelude.{◌≡◌, List, Ok, Some, OnErr, false, length, true};
 ghost use Rattle.memory_image.specs.Image.{Span, IsLaidOut};
 ghost use Rattle.memory_image.specs.Results.{result_map};
 ghost use Rattle.unwind_definitions.specs.LanguageSearch.{language_place};
@@ -144,6 +144,30 @@ pub(crate) fn step_to_caller(
         }
         Err(fault) => Err(DeliverError::from(fault)),
     }
+}
+
+/// Puts a frame's caller in the place of the frame's state, where the row is one of those that need no
+/// copy of the registers. `false`, and nothing is changed, where it isn't. `signal` says whether the
+/// description is of a signal's frame, and `stack` is a window over the image.
+#[inline(always)]
+pub(crate) fn step_in_place(
+    stack: &Window<'_, '_>,
+    row: &RowRef<'_, '_>,
+    signal: bool,
+    state: &mut Stepped,
+) -> bool
+    ensures caller { result ≡ true → (f : DescribedFrame) → IsRowOf row.now f.run →
+        signal ≡ f.found.fde.cie.letters.signal →
+        caller stack.now state.old.context f ≡ Ok state.new }
+    ensures stays { result ≡ false → state.new ≡ state.old }
+{
+    if !unwinding_frames::step_in_place(stack, row, &mut state.context) {
+        return false;
+    }
+    // A look at them tells the proof that there are sixteen registers.
+    let _ = state.context.registers[RSP];
+    state.signal = signal;
+    true
 }
 
 /// Where the language table of a description stands.

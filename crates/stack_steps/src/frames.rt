@@ -1,6 +1,6 @@
 // Frames of modules of any format: the frame at an address, how many bytes its arguments take, and its
 // caller, each by one match. What it answers for one format stands in `elf`, `macho` and `pe`.
-ghost use Rattle.std.specs.Prelude.{◌≡◌, ◌<◌, ◌≤◌, OnErr, Some};
+ghost use Rattle.std.specs.Prelude.{◌≡◌, ◌<◌, ◌≤◌, Ok, OnErr, Some, false, true};
 ghost use Rattle.memory_image.specs.Results.{result_map};
 ghost use Rattle.stack_steps.specs.Asking.{arguments_of};
 ghost use Rattle.stack_steps.specs.Frames.{FrameAt};
@@ -48,6 +48,24 @@ impl<'f, 'a> FoundFrame<'f, 'a> {
                 Err(_) => 0,
             },
             FoundFrame::Compact(_) | FoundFrame::Recorded(_) => 0,
+        }
+    }
+
+    /// Puts the caller in the place of the state at the frame, where the frame's row is lent by an index
+    /// and needs no copy of the registers. `false`, and nothing is changed, where that isn't so. `stack`
+    /// is a window over the image.
+    #[inline(always)]
+    pub(crate) fn step_in_place(&self, stack: &Window<'_, 'a>, state: &mut Stepped) -> bool
+        ensures caller { result ≡ true → (f : FrameAt) → IsFrameOf self.now f →
+            caller_by stack.now state.old.context f ≡ Ok state.new }
+        ensures stays { result ≡ false → state.new ≡ state.old }
+    {
+        let FoundFrame::Prepared(_, prepared) = self else {
+            return false;
+        };
+        match prepared.row() {
+            Ok(row) => elf::step_in_place(stack, row, prepared.is_signal_trampoline(), state),
+            Err(_) => false,
         }
     }
 

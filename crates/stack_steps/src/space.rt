@@ -427,9 +427,24 @@ impl<'a> Space<'a> {
         ensures within { IfSome result (λ added_module. (added_module.now.holder.start ≤ address) ×
             (address < added_module.now.holder.end)) }
     {
-        if let Some(added_module) = self.added_there(address, *near) {
-            return Some(added_module);
+        match self.added_there(address, *near) {
+            Some(added_module) => Some(added_module),
+            None => self.added_far(address, near),
         }
+    }
+
+    /// The same by a search. Not inlined, as a function clears the places of its locals whenever it is
+    /// called, and most frames lie in the module of the frame before.
+    #[inline(never)]
+    fn added_far(&self, address: u64, near: &mut usize) -> Option<&AddedModule<'a>>
+        ensures module { option_map (λ added_module. holder_of added_module.now) result ≡
+            module_at self.now.modules address }
+        ensures index { MatchOption result (index_at self.now.added address ≡ None)
+            (λ added_module. index_at self.now.added address ≡ (added_of added_module.now).index) }
+        ensures table { IfSome result (λ added_module. IsAddedModule self.now.image added_module.now) }
+        ensures within { IfSome result (λ added_module. (added_module.now.holder.start ≤ address) ×
+            (address < added_module.now.holder.end)) }
+    {
         match last_below(&self.modules, address) {
             Some((_, module_entry)) => {
                 if address < module_entry.end {

@@ -42,7 +42,7 @@ use crate::space::{AddedModule, Space};
 use eh_frame::RowRoom;
 use fde_finders::FDESearchResult;
 use format_frames::Stepped;
-use memory_image::{Ledger, MemoryImage, Steps};
+use memory_image::{Ledger, MemoryImage, NoLedger, Steps};
 use std::marker::Model;
 use unwind_arch::x86_64::{Context, RSP};
 use unwinding_frames::{Window, address_asked};
@@ -182,13 +182,34 @@ where
         ensures ticks { TicksAt self.now state.now.context state.now.signal steps.old.number
             steps.new.number }
     {
+        self.prepared_frame_at(added_module, state, state.address(), steps)
+    }
+
+    /// The same, where the address that is asked is known.
+    #[inline(always)]
+    fn prepared_frame_at<'f, L: Ledger>(
+        &self,
+        added_module: &'f AddedModule<'t>,
+        state: &Stepped,
+        address: u64,
+        steps: &mut Steps<L>,
+    ) -> Result<Option<FoundFrame<'f, 'a>>, DeliverError>
+        requires prepared { is_some added_module.now.table ≡ true }
+        requires asked { IsAsked self.now state.now.context state.now.signal added_module.now }
+        requires address { address ≡
+            address_of_call state.now.context.ra state.now.signal }
+        ensures frame { GivesFrameAt result
+            (frame_of self.now state.now.context state.now.signal) }
+        ensures ticks { TicksAt self.now state.now.context state.now.signal steps.old.number
+            steps.new.number }
+    {
         // Its regions are laid out, as the image's type says.
         let _ = self.image();
         let Some(shared) = &added_module.table else {
             unreachable!()
         };
         let table: &'f PreparedTable<'a> = shared.table();
-        elf::prepared_frame(table, state.address(), steps)
+        elf::prepared_frame(table, address, steps)
     }
 
     /// The frame at a state that lies in a module that isn't prepared. What is found is put into
@@ -224,6 +245,24 @@ where
     /// before.
     #[inline(always)]
     pub fn step_to_caller(
+        &mut self,
+        state: &mut Stepped,
+        frame: &FoundFrame<'_, 'a>,
+    ) -> Result<(), DeliverError>
+        ensures caller { (f : FrameAt) → IsFrameOf frame.now f →
+            result_map (λ done. state.new) result ≡ caller_by self.old.image state.old.context f }
+        ensures stays { OnErr result (state.new ≡ state.old) }
+        ensures same { self.new ≡ self.old }
+    {
+        if frame.step_in_place(&self.stack, state) {
+            return Ok(());
+        }
+        self.step_by_copy(state, frame)
+    }
+
+    /// The same by a copy of the registers, since a step may have a fault after it has written some.
+    #[inline(never)]
+    fn step_by_copy(
         &mut self,
         state: &mut Stepped,
         frame: &FoundFrame<'_, 'a>,
@@ -283,15 +322,45 @@ where
     {
         // Its regions are laid out, as the image's type says.
         let _ = self.image();
+        let address = state.address();
         let Some(added_module) = self.module_asked(&state.context, state.signal) else {
             return Ok(false);
         };
         if !added_module.is_prepared() {
             return self.advance_in_room(state, steps);
         }
-        match self.prepared_frame(added_module, state, steps) {
+        match self.prepared_frame_at(added_module, state, address, steps) {
             Ok(Some(frame)) => {
-                self.step_to_caller(state, &frame)?;
+                if frame.step_in_place(&self.stack, state) {
+                    return Ok(true);
+                }
+                self.advance_by_copy(added_module, state)
+            }
+            Ok(None) => Ok(false),
+            Err(error) => Err(error),
+        }
+    }
+
+    /// The same of a frame of a prepared module, by a copy of the registers. The frame is looked up
+    /// once more, uncounted: what is handed on to a call has to be laid out in memory, for each step.
+    #[inline(never)]
+    #[tactic(auto, unfolding(crate::specs::Stepping::step_of))]
+    fn advance_by_copy(
+        &mut self,
+        added_module: &AddedModule<'t>,
+        state: &mut Stepped,
+    ) -> Result<bool, DeliverError>
+        requires prepared { is_some added_module.now.table ≡ true }
+        requires asked { IsAsked self.old state.old.context state.old.signal added_module.now }
+        ensures step { result_map (advanced_to state.new) result ≡
+            step_of self.old state.old.context state.old.signal }
+        ensures stays { (result ≢ Ok true) → state.new ≡ state.old }
+        ensures same { self.new ≡ self.old }
+    {
+        let mut uncounted = Steps::new(NoLedger);
+        match self.prepared_frame(added_module, state, &mut uncounted) {
+            Ok(Some(frame)) => {
+                self.step_by_copy(state, &frame)?;
                 Ok(true)
             }
             Ok(None) => Ok(false),
@@ -328,39 +397,6 @@ where
     }
 }
 
-/// The step from a frame of a module that isn't prepared. A room for its row is made here, as a
-/// function clears the places of its locals whenever it is called.
-#[inline(never)]
-#[tactic(auto, unfolding(crate::specs::Stepping::step_of))]
-fn step_in_room<'t, 'a, L: Ledger>(
-    stepper: &mut Stepper<'_, 't, 'a>,
-    context: &Context,
-    interrupted: bool,
-    steps: &mut Steps<L>,
-) -> Result<Option<Stepped>, DeliverError>
-where
-    't: 'a,
-    ensures exact { result ≡ step_of stepper.old context.now interrupted }
-    ensures ticks { TicksAt stepper.old context.now interrupted steps.old.number
-        steps.new.number }
-{
-    let mut next = Stepped {
-        context: context.copied(),
-        signal: interrupted,
-    };
-    let mut place = None;
-    let mut rows = RowRoom::new();
-    let found = stepper.frame_at(&next, &mut place, &mut rows, steps);
-    let frame = match &found {
-        Ok(Some(frame)) => frame,
-        Ok(None) => return Ok(None),
-        Err(error) => return Err(*error),
-    };
-    stepper.write_caller_state(context, frame, &mut next)?;
-    Ok(Some(next))
-}
-
-#[tactic(auto, unfolding(crate::specs::Stepping::step_of))]
 fn exact_step<L: Ledger>(
     space: &Space<'_>,
     context: &Context,
@@ -377,24 +413,15 @@ fn exact_step<L: Ledger>(
     let _ = space.image();
     let own = space.over_own_image();
     let mut stepper = Stepper::over(&own, context.registers[RSP]);
-    let Some(added_module) = stepper.holder_at(context, interrupted) else {
-        return Ok(None);
-    };
-    let Some(shared) = &added_module.table else {
-        return step_in_room(&mut stepper, context, interrupted, steps);
-    };
     let mut next = Stepped {
         context: context.copied(),
         signal: interrupted,
     };
-    let found = elf::prepared_frame(shared.table(), next.address(), steps);
-    let frame = match &found {
-        Ok(Some(frame)) => frame,
-        Ok(None) => return Ok(None),
-        Err(error) => return Err(*error),
-    };
-    stepper.write_caller_state(context, frame, &mut next)?;
-    Ok(Some(next))
+    if stepper.advance(&mut next, steps)? {
+        Ok(Some(next))
+    } else {
+        Ok(None)
+    }
 }
 
 /// The caller of the frame whose registers `context` holds, `None` at the end of the stack.
