@@ -5,7 +5,8 @@ ghost use Rattle.memory_image.specs.Image.{word_at};
 ghost use Rattle.unwind_definitions.specs.State.{State};
 ghost use Rattle.unwind_definitions.specs.Function.{Function};
 ghost use Rattle.unwind_definitions.specs.Chain.{Call};
-ghost use Rattle.stack_walks.specs.WalkEnds.{contexts_to_end};
+ghost use Rattle.stack_walks.specs.ContextsMet.{contexts_met};
+ghost use Rattle.stack_walks.specs.WalkEnds.{UnwindsAsWalk, contexts_to_end};
 ghost use Rattle.stack_walks.specs.Lines.{GivesUnlessNoMemory, NeedsMore, line_of};
 ghost use Rattle.stack_steps.specs.Ticking.{RisesWithin};
 ghost use Rattle.stack_walks.specs.KnownWalks.{StartsKnownStack, ShowStack};
@@ -13,7 +14,7 @@ ghost use Rattle.stack_walks.specs.Walking.{IsWalked, StartsChain, StepFails, Sh
 ghost use Rattle.stack_steps.specs.Stopped.{StartsStopped};
 
 use crate::room::Room;
-use crate::unwind::unwind_frames;
+use crate::unwind::{Stop, unwind_frames, unwind_frames_alone};
 use eh_frame::RowRoom;
 use memory_image::{Ledger, NoLedger, Steps};
 use stack_steps::{DeliverError, Space, Stepped};
@@ -56,13 +57,35 @@ pub fn walk_with_rows<'a, L: Ledger>(
         context: *start,
         signal: interrupted,
     };
-    match unwind_frames(None, space, &mut state, limit, room, rows, steps) {
+    match unwinding_in(space, &mut state, limit, room, rows, steps) {
         Ok(_) => Ok(()),
         Err(error) => {
             room.clear();
             Err(error)
         }
     }
+}
+
+/// Goes from a state outwards as a walk does: where each module is prepared, without a room for rows.
+fn unwinding_in<'a, L: Ledger>(
+    space: &Space<'a>,
+    state: &mut Stepped,
+    limit: u32,
+    room: &mut Room,
+    rows: &mut RowRoom<'a>,
+    steps: &mut Steps<L>,
+) -> Result<Option<Stop>, DeliverError>
+    requires within { limit ≤ room.old.limit }
+    requires empty { room.old.visited ≡ [] }
+    ensures walks { UnwindsAsWalk space.now limit state.old state.new room.old room.new result }
+    ensures ticks { RisesWithin space.now
+        (contexts_met None space.now limit state.old.context state.old.signal)
+        steps.old.number steps.new.number }
+{
+    if space.is_prepared() {
+        return unwind_frames_alone(&space.over_own_image(), state, limit, room, steps);
+    }
+    unwind_frames(None, space, state, limit, room, rows, steps)
 }
 
 /// Walks the stack whose innermost frame has the registers `start` into a room.
