@@ -3,7 +3,8 @@
 //! the program headers, and the segment that has the frame table.
 //!
 //! `loaded_modules` reads them, and `space_of_core` makes of them and of the core's memory what its
-//! threads are walked over.
+//! threads are walked over. Who has other memory takes its parts: `image_of_tables`, `add_region` and
+//! `space_over`.
 //!
 //! Sources: the System V gABI for ELF headers and program headers, and the LSB for `PT_GNU_EH_FRAME`.
 #![tactic(auto)]
@@ -15,4 +16,4 @@ mod spaces;
 
 pub use loading::{LoadedModule, loaded_modules};
 pub use mapped_files::{Files, PartError};
-pub use spaces::space_of_core;
+pub use spaces::{add_region, image_of_tables, space_of_core, space_over};

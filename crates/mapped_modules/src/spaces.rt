@@ -12,7 +12,11 @@ use stack_steps::{Module, Space, SpaceError};
 use std::alloc::{AllocError, Global};
 
 /// Adds a region to an image, where it takes it.
-fn add_region<'a>(
+///
+/// # Errors
+///
+/// `AllocError` where memory ran out.
+pub fn add_region<'a>(
     image: &mut MemoryImage<'a>,
     address: u64,
     bytes: &'a [u8],
@@ -27,8 +31,15 @@ fn add_region<'a>(
     }
 }
 
-/// The image of the modules' tables.
-fn image_of_tables(alloc: Global, loaded: &[LoadedModule]) -> Result<MemoryImage<'_>, AllocError>
+/// The image of the modules' tables, but for those that share an address with an earlier one.
+///
+/// # Errors
+///
+/// `AllocError` where memory ran out.
+pub fn image_of_tables(
+    alloc: Global,
+    loaded: &[LoadedModule],
+) -> Result<MemoryImage<'_>, AllocError>
     ensures { IfOk result
         (λ image. image ≡ with_regions [] (tables_of (map loaded_value loaded.now))) }
 {
@@ -62,7 +73,11 @@ fn add_module(space: &mut Space<'_>, code: Module) -> Result<(), AllocError>
 }
 
 /// A space over an image, with the modules that it takes.
-fn space_over<'a>(
+///
+/// # Errors
+///
+/// `AllocError` where memory ran out.
+pub fn space_over<'a>(
     alloc: Global,
     image: MemoryImage<'a>,
     loaded: &[LoadedModule],
