@@ -1,0 +1,6 @@
+pub mod PartReads
+pub mod PartTables
+pub mod PartSteps
+pub mod BuiltParts
+pub mod CoreWindows
+pub mod PartSamples
