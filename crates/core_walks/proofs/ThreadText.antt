@@ -1,6 +1,6 @@
 -- The lines of threads.
 use Rattle.std.proofs.Common.{◌≡◌, ℕ, zero, suc, ◌+◌, List, [], ◌∷◌, ◌++◌, take, drop, slice_get, Some, Result, Ok, Err, true, Bool, ◌≤◌, length, refl, sym, ap, subst, ◌∙◌, append_assoc, arith}
-use Rattle.std.specs.Prelude.{codes, IfOk}
+use Rattle.std.specs.Prelude.{codes, IfOk, IsTrue}
 use Rattle.std.specs.Fmt.{decimal}
 use Rattle.memory_image.specs.Image.{IsLaidOut}
 use Rattle.unwind_arch.specs.declared.x86_64.Context.{Context}
@@ -16,6 +16,7 @@ use Rattle.stack_deliver.proofs.Chains.{shown_states}
 use Rattle.stack_snapshot.specs.Cores.{CoreContent, core_space_of, threads_of}
 use Rattle.stack_report.specs.Report.{line, walk_text}
 use Rattle.stack_report.proofs.Shows.{walk_shown}
+use Rattle.core_walks.specs.MappedWalks.{AreMapped, is_mapped}
 use Rattle.core_walks.specs.Lines.{walked_text, thread_text, threads_text, core_report_of, lines_before, lines_after, stopped_text, text_before, text_after}
 
 -- a thread that was stopped in a described function
@@ -37,6 +38,15 @@ threads_text-same space other limit same index [] = refl
 threads_text-same space other limit same index (c ∷ cs) =
     let later = threads_text-same space other limit same (index + 1) cs in
     let here = thread_text-same space other limit index c (same limit c true) in
+    rw (here, later) refl
+
+-- the texts are the same over a space over which each walk is the same that met nothing unmapped
+pub threads_mapped : (part whole : SpaceValue) (limit : ℕ) → ((c : Context) → IsTrue (is_mapped (line_of part limit c true)) → line_of whole limit c true ≡ line_of part limit c true)
+    → (index : ℕ) (cs : List Context) → AreMapped part limit cs → threads_text whole limit index cs ≡ threads_text part limit index cs
+threads_mapped part whole limit same index [] mapped = refl
+threads_mapped part whole limit same index (c ∷ cs) mapped =
+    let later = threads_mapped part whole limit same (index + 1) cs mapped.1 in
+    let here = thread_text-same whole part limit index c (same c mapped.0) in
     rw (here, later) refl
 
 -- the texts of threads, taken apart at one of them

@@ -8,6 +8,7 @@ ghost use Rattle.unwind_arch.specs.declared.x86_64.Context.{Context};
 ghost use Rattle.core_walks.specs.Lines.{thread_text, threads_text, core_report_of};
 ghost use Rattle.core_walks.specs.Lines.{lines_after, lines_before, stopped_text, text_after};
 ghost use Rattle.core_walks.specs.Lines.{text_before};
+ghost use Rattle.core_walks.specs.MappedWalks.{is_mapped};
 ghost use Rattle.core_walks.specs.ThreadLines.{thread_lines};
 ghost use Rattle.memory_image.specs.Image.{IsLaidOut};
 ghost use Rattle.unwind_definitions.specs.State.{State};
@@ -17,6 +18,7 @@ ghost use Rattle.stack_steps.specs.Modules.{AreApart};
 ghost use Rattle.stack_steps.specs.Stopped.{StartsStopped};
 ghost use Rattle.stack_walks.specs.KnownWalks.{StartsKnownStack};
 
+use crate::mapped::is_unmapped;
 use core_file::Threads;
 use memory_image::{NoLedger, Steps};
 use stack_deliver::{Context, DeliverError, Room, Space, walk_into};
@@ -49,26 +51,34 @@ fn put_refused(report: &mut Report, error: DeliverError) -> Result<(), AllocErro
     report.end_line()
 }
 
-/// Puts a thread's number and its walk last, or why there is none.
+/// Puts a thread's number and its walk last, or why there is none. It answers whether the walk met
+/// nothing that isn't mapped.
 #[tactic(auto, unfolding(crate::specs::Lines::thread_text))]
-fn put_thread(
+pub(crate) fn put_thread(
     report: &mut Report,
     index: usize,
     space: &Space<'_>,
     thread: &Context,
     limit: u32,
     room: &mut Room,
-) -> Result<(), AllocError>
+) -> Result<bool, AllocError>
     requires { limit ≤ room.old.limit }
     ensures text { OnOk result (report.new ≡ report.old ++ thread_text space.now limit index thread.now) }
+    ensures mapped { IfOk result (λ mapped. mapped ≡ is_mapped (line_of space.now limit thread.now true)) }
     ensures places { room.new.limit ≡ room.old.limit }
 {
     let walked = walk_into(space, thread, true, limit, room, &mut Steps::new(NoLedger));
     report.put_count("thread ", index)?;
     report.end_line()?;
     match walked {
-        Ok(()) => report.put_walk(room),
-        Err(error) => put_refused(report, error),
+        Ok(()) => {
+            report.put_walk(room)?;
+            Ok(true)
+        }
+        Err(error) => {
+            put_refused(report, error)?;
+            Ok(!is_unmapped(error))
+        }
     }
 }
 

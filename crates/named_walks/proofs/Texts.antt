@@ -1,6 +1,6 @@
 -- The lines of states and of threads, one after another; and where no file was mapped they are those without names.
 use Rattle.std.proofs.Common.{◌≡◌, ℕ, ◌+◌, ◌-◌, ◌^◌, ◌<◌, ◌≤◌, List, [], ◌∷◌, ◌++◌, length, map, drop, get_or, slice_index, Result, Ok, Err, false, Bool, refl, sym, ap, ◌∙◌, arith, append_assoc, length-append}
-use Rattle.std.specs.Prelude.{codes, min, OnOk}
+use Rattle.std.specs.Prelude.{codes, min, IsTrue, OnOk}
 use Rattle.std.proofs.lemmas.List.{append-nil, drop_more}
 use Rattle.std.specs.Fmt.{decimal}
 use Rattle.memory_image.specs.Results.{result_map}
@@ -12,9 +12,10 @@ use Rattle.stack_steps.specs.declared.error.DeliverError.{DeliverError}
 use Rattle.stack_steps.specs.Modules.{SpaceValue}
 use Rattle.stack_report.specs.Digits.{hexadecimal}
 use Rattle.stack_report.specs.Report.{end_line, fields_text, frame_line, frame_lines, line, state_fields, state_line}
+use Rattle.core_walks.specs.MappedWalks.{is_mapped}
 use Rattle.core_walks.specs.Lines.{thread_text, threads_text, walked_text}
 use Rattle.mapped_names.specs.Places.{place_of}
-use Rattle.named_walks.specs.Marking.{context_of, marked_line_of, stopped_at}
+use Rattle.named_walks.specs.Marking.{AreMarkedMapped, context_of, marked_line_of, stopped_at}
 use Rattle.named_walks.specs.Named.{frame_head, name_text, named_line, named_lines, named_thread_text, named_threads_text, named_walk_text}
 use Rattle.named_walks.proofs.Marks.{without_marks}
 
@@ -84,6 +85,11 @@ thread_put files parts space limit index c old one two new walk (Ok done) head e
     ∙ ap (λ (w : Result (List Stepped) DeliverError). old ++ (line (codes "thread " ++ decimal index) ++ named_walk_text files parts w)) walked
 thread_put files parts space limit index c old one two new walk (Err error) head ended walked put = tt
 
+-- whether a walk met nothing that isn't mapped, by what was answered of it
+pub mapped_same : (r : Result (Unit {0}) DeliverError) (visited : List Stepped) (due : Result (List Stepped) DeliverError) → result_map (λ done. visited) r ≡ due → is_mapped r ≡ is_mapped due
+mapped_same (Ok done) visited due is = ap (λ (w : Result (List Stepped) DeliverError). is_mapped w) is
+mapped_same (Err error) visited due is = ap (λ (w : Result (List Stepped) DeliverError). is_mapped w) is
+
 -- there is a text after each thread that is longer than there are threads so far
 pub count_fits : (files : List ℕ → List ℕ) (parts : List PartValue) (space : SpaceValue) (limit index : ℕ) (c : Context) (old new : List ℕ) → new ≡ old ++ named_thread_text files parts space limit index c
     → index ≤ length old → length new < 2 ^ 64 → (min (index + 1) (2 ^ 64 - 1) ≡ index + 1) × (index + 1 ≤ length new)
@@ -91,6 +97,23 @@ count_fits files parts space limit index c old new put fits long =
     let some = text_some files parts space limit index c in
     let size : length new ≡ length old + length (named_thread_text files parts space limit index c) = ap length put ∙ length-append old (named_thread_text files parts space limit index c) in
     (omega arith, omega arith)
+
+-- ---- over a part of the memory
+
+thread_same : (files : List ℕ → List ℕ) (parts : List PartValue) (part whole : SpaceValue) (limit index : ℕ) (c : Context) → marked_line_of whole limit (stopped_at c) ≡ marked_line_of part limit (stopped_at c)
+    → named_thread_text files parts whole limit index c ≡ named_thread_text files parts part limit index c
+unfolding named_thread_text
+thread_same files parts part whole limit index c same = ap (λ (w : Result (List Stepped) DeliverError). line (codes "thread " ++ decimal index) ++ named_walk_text files parts w) same
+
+-- the texts are the same over a space over which each walk is the same that met nothing unmapped
+pub threads_mapped : (files : List ℕ → List ℕ) (parts : List PartValue) (part whole : SpaceValue) (limit : ℕ) →
+    ((c : Context) → IsTrue (is_mapped (marked_line_of part limit (stopped_at c))) → marked_line_of whole limit (stopped_at c) ≡ marked_line_of part limit (stopped_at c))
+    → (index : ℕ) (cs : List Context) → AreMarkedMapped part limit cs → named_threads_text files parts whole limit index cs ≡ named_threads_text files parts part limit index cs
+threads_mapped files parts part whole limit same index [] mapped = refl
+threads_mapped files parts part whole limit same index (c ∷ cs) mapped =
+    let later = threads_mapped files parts part whole limit same (index + 1) cs mapped.1 in
+    let here = thread_same files parts part whole limit index c (same c mapped.0) in
+    rw (here, later) refl
 
 -- ---- without names
 

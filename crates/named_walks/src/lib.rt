@@ -15,7 +15,8 @@
 mod laws;
 mod marking;
 mod names;
+mod parts;
 mod walking;
 
 pub use names::FrameNames;
-pub use walking::named_walks_of_threads;
+pub use walking::{mapped_named_walks_of_threads, named_walks_of_threads};

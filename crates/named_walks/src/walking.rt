@@ -1,16 +1,20 @@
 // The lines of walks.
-ghost use Rattle.std.specs.Prelude.{◌≡◌, ◌≤◌, ◌++◌, ℕ, List, IfOk, IsErrOf, OnOk, vec_capacity};
+ghost use Rattle.std.specs.Prelude.{◌≡◌, ◌≤◌, ◌++◌, ℕ, List, IfOk, IfSome, IsErrOf, IsSome};
+ghost use Rattle.std.specs.Prelude.{OnOk, vec_capacity};
 ghost use Rattle.core_file.specs.Left.{threads_left};
 ghost use Rattle.mapped_files.specs.Files.{AreTold};
 ghost use Rattle.stack_report.specs.Refusals.{refused_line};
 ghost use Rattle.named_walks.specs.Named.{frame_head, named_line, named_lines, named_thread_text};
 ghost use Rattle.stack_report.specs.Report.{end_line, fields_text};
 ghost use Rattle.memory_image.specs.Results.{result_map};
+ghost use Rattle.core_walks.specs.MappedWalks.{is_mapped};
+ghost use Rattle.named_walks.specs.Marking.{AreMarkedMapped, marked_line_of, stopped_at};
 ghost use Rattle.named_walks.specs.Named.{named_threads_text, named_walk_text};
 
 use crate::marking::walk_marked;
 use crate::names::FrameNames;
 use core_file::Threads;
+use core_walks::is_unmapped;
 use mapped_files::{Files, PartError};
 use stack_report::Report;
 use stack_steps::{DeliverError, Space, Stepped};
@@ -122,7 +126,18 @@ fn put_walked<F: Files>(
     }
 }
 
-/// Puts a thread's number and its walk last, or why there is none.
+/// Whether a walk met nothing that isn't mapped.
+fn is_mapped(walked: Result<(), DeliverError>) -> bool
+    ensures { result ≡ is_mapped walked }
+{
+    match walked {
+        Ok(()) => true,
+        Err(error) => !is_unmapped(error),
+    }
+}
+
+/// Puts a thread's number and its walk last, or why there is none. It answers whether the walk met
+/// nothing that isn't mapped.
 #[tactic(auto, unfolding(crate::specs::Named::named_thread_text))]
 fn put_thread<F: Files>(
     report: &mut Report,
@@ -132,11 +147,13 @@ fn put_thread<F: Files>(
     limit: u32,
     visited: &mut Vec<Stepped>,
     names: &mut FrameNames<'_, F>,
-) -> Result<(), PartError>
+) -> Result<bool, PartError>
     requires { limit ≤ vec_capacity visited.old }
     ensures told { (all : List ℕ → List ℕ) → AreTold (F.content names.old.files) all →
         OnOk result (report.new ≡ report.old ++
         named_thread_text all names.old.parts space.now limit index thread.now) }
+    ensures mapped { IfOk result (λ mapped. mapped ≡
+        is_mapped (marked_line_of space.now limit (stopped_at thread.now))) }
     ensures fault { IsErrOf result PartError.Fault → F.may_fail names.old.files }
     ensures places { vec_capacity visited.new ≡ vec_capacity visited.old }
     ensures same { names.new ≡ names.old }
@@ -144,7 +161,8 @@ fn put_thread<F: Files>(
     let walked = walk_marked(space, thread, limit, visited);
     report.put_count("thread ", index)?;
     report.end_line()?;
-    put_walked(report, names, walked, visited)
+    put_walked(report, names, walked, visited)?;
+    Ok(is_mapped(walked))
 }
 
 /// The walks of threads over a space, each from the instruction at which the thread was stopped, with
@@ -186,4 +204,50 @@ pub fn named_walks_of_threads<F: Files>(
         index = index.saturating_add(1);
     }
     Ok(report)
+}
+
+/// The same, where none of the walks met something that isn't mapped. `None` where one did.
+///
+/// Over a part of the memory that holds the tables of all modules these are the walks over all of it.
+///
+/// # Errors
+///
+/// Those of [`named_walks_of_threads`].
+pub fn mapped_named_walks_of_threads<F: Files>(
+    alloc: Global,
+    space: &Space<'_>,
+    threads: Threads<'_>,
+    limit: u32,
+    names: &mut FrameNames<'_, F>,
+) -> Result<Option<Report>, PartError>
+    ensures told { (all : List ℕ → List ℕ) → AreTold (F.content names.old.files) all →
+        IfOk result (λ walked. IfSome walked (λ report. report ≡
+        named_threads_text all names.old.parts space.now limit 0 (threads_left threads.entry))) }
+    ensures mapped { IfOk result (λ walked. IsSome walked →
+        AreMarkedMapped space.now limit (threads_left threads.entry)) }
+    ensures fault { IsErrOf result PartError.Fault → F.may_fail names.old.files }
+    ensures same { names.new ≡ names.old }
+{
+    let mut report = Report::new(alloc);
+    let mut visited = Vec::with_capacity(alloc, limit as usize)?;
+    let mut threads = threads;
+    let mut index = 0usize;
+    while let Some(thread) = threads.next() {
+        if !put_thread(
+            &mut report,
+            index,
+            space,
+            &thread,
+            limit,
+            &mut visited,
+            names,
+        )? {
+            return Ok(None);
+        }
+        // Each thread makes the report longer. So it has fewer threads than bytes, and the number of
+        // threads never comes to its most.
+        let _ = report.bytes().len();
+        index = index.saturating_add(1);
+    }
+    Ok(Some(report))
 }
