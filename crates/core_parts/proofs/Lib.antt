@@ -1,0 +1,4 @@
+pub mod Regions
+pub mod Segments
+pub mod PartWalks
+pub mod Finding

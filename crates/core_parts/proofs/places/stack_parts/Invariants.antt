@@ -1,0 +1,13 @@
+use Rattle.std.proofs.Common.{map, length}
+use Rattle.std.specs.List.{AllByRecursion}
+use Rattle.core_file.specs.Left.{threads_left}
+use Rattle.mapped_modules.specs.Loading.{loaded_value}
+use Rattle.mapped_modules.specs.Spaces.{tables_of}
+use Rattle.core_parts.specs.Parts.{IsStackPart}
+use Rattle.core_parts.proofs.places.stack_parts.Given as goal
+
+abbrev pub invariant-loop-thread : goal.invariant-loop-thread
+invariant-loop-thread l = AllByRecursion (IsStackPart l.front.places (tables_of (map loaded_value l.loaded))) l.parts.items
+
+abbrev pub decreases-loop-thread : goal.decreases-loop-thread
+decreases-loop-thread l = length (threads_left l.threads)
