@@ -1,3 +1,4 @@
 pub mod Cutting
+pub mod PartLines
 pub mod Threads
 pub mod Ready

@@ -1,3 +1,4 @@
 pub mod Lines
 pub mod Due
+pub mod PartLines
 pub mod Views

@@ -5,6 +5,7 @@
 
 mod asked;
 mod lines;
+mod parts;
 mod running;
 mod sample;
 mod system;

@@ -27,6 +27,7 @@ ghost use Rattle.named_walks.specs.Named.{named_threads_text};
 
 use crate::asked::core_asked;
 use crate::lines::usage_line;
+use crate::parts::lines_by_parts;
 use command_ends::{Answer, Status, Words, silent_answer, text_answer, write_answer};
 use core_file::{CoreFile, MappedParts, mapped_parts};
 use core_walks::{core_refused_line, walks_of_threads};
@@ -38,10 +39,10 @@ use stack_report::{Report, line_of};
 use std::alloc::{AllocError, Global};
 
 /// The most states of a walk.
-const MOST_STATES: u32 = 1_048_576;
+pub(crate) const MOST_STATES: u32 = 1_048_576;
 
 /// The most bytes of a core.
-const MOST_BYTES: u64 = 1 << 32;
+pub(crate) const MOST_BYTES: u64 = 1 << 32;
 
 /// The walks of a core's threads, over its memory and these modules.
 fn walks_over(
@@ -78,7 +79,7 @@ fn named_walks_over<F: Files>(
 }
 
 /// The modules of the files that a core says were mapped, none where it doesn't say.
-fn modules_in<F: Files>(
+pub(crate) fn modules_in<F: Files>(
     alloc: Global,
     files: &F,
     parts: Option<MappedParts<'_>>,
@@ -209,9 +210,9 @@ fn bytes_answer<F: Files>(alloc: Global, files: &F, names: bool, bytes: &[u8]) -
     core_answer(alloc, files, names, bytes)
 }
 
-/// The answer to the file of a path.
+/// The answer to the file of a path, which is read whole.
 #[tactic(auto, using(crate::proofs::Cutting::cut_due))]
-fn file_answer<F: Files>(alloc: Global, files: &F, names: bool, path: &[u8]) -> Answer
+fn whole_answer<F: Files>(alloc: Global, files: &F, names: bool, path: &[u8]) -> Answer
     ensures told { (all : List ℕ → List ℕ) → AreTold (F.content files.now) all →
         IsReadyOrFailed (bytes_due names all (all path.now)) result.status result.text }
     ensures silent { (result.status ≡ Status.Memory) ⊎ (result.status ≡ Status.ReadFault) →
@@ -221,6 +222,25 @@ fn file_answer<F: Files>(alloc: Global, files: &F, names: bool, path: &[u8]) -> 
 {
     match files.read_part(alloc, path, 0, MOST_BYTES + 1) {
         Ok(bytes) => bytes_answer(alloc, files, names, &bytes),
+        Err(error) => failed_answer(alloc, error),
+    }
+}
+
+/// The answer to the file of a path, by parts of it where they suffice.
+fn file_answer<F: Files>(alloc: Global, files: &F, names: bool, path: &[u8]) -> Answer
+    ensures told { (all : List ℕ → List ℕ) → AreTold (F.content files.now) all →
+        IsReadyOrFailed (bytes_due names all (all path.now)) result.status result.text }
+    ensures silent { (result.status ≡ Status.Memory) ⊎ (result.status ≡ Status.ReadFault) →
+        result.text ≡ [] }
+    ensures fault { result.status ≡ Status.ReadFault → F.may_fail files.now }
+    ensures kind { (result.status ≢ Status.Usage) × (result.status ≢ Status.WriteFault) }
+{
+    match lines_by_parts(alloc, files, names, path) {
+        Ok(Some(text)) => Answer {
+            status: Status::Done,
+            text,
+        },
+        Ok(None) => whole_answer(alloc, files, names, path),
         Err(error) => failed_answer(alloc, error),
     }
 }
@@ -242,9 +262,11 @@ fn decide<F: Files>(alloc: Global, words: &Words, files: &F) -> Answer
 
 /// Writes the walks of all threads of the core file that the words name to the output, or why there are none.
 ///
-/// The core is read whole, but for what follows its 4,294,967,297th byte, and of each file that it
-/// says was mapped the front and the segment that has its frame table; for names also the symbols of
-/// the files in which frames stand. Running out of memory is `Memory`.
+/// Of the core the front is read, and a window of memory for each thread's stack; where a walk over
+/// these meets something that isn't there, the core is read whole, but for what follows its
+/// 4,294,967,297th byte. The answer is the same. Of each file that it says was mapped the front is read,
+/// and the segment that has its frame table; for names also the symbols of the files in which frames
+/// stand. Running out of memory is `Memory`.
 pub fn run<F: Files, O: Sink>(alloc: Global, words: &Words, files: &F, output: &mut O) -> Status
     // What is due for the words and for what the files have is answered and written.
     ensures told { (all : List ℕ → List ℕ) → AreTold (F.content files.now) all →

@@ -1,0 +1,13 @@
+use Rattle.std.proofs.Common.{◌≡◌, ◌≤◌, List, ℕ, length, take, sym, subst}
+use Rattle.core_stacks.proofs.PartLines.{core_told}
+use Rattle.core_stacks.proofs.parts.lines_by_parts.Goals as goal
+
+pub returns-clause-told : goal.returns-clause-told
+returns-clause-told g c = λ all tells.
+    let whole = all c.args.path.now in
+    let value = c.in-Some-parse.front in
+    let read : take (length c.in-Some.bytes.items) whole ≡ c.in-Some.bytes.items = rw c.in-Some.is at (c.in_ok-bytes.ensures.told all tells) in
+    let begin = subst (λ (front : List ℕ). take (length front) whole ≡ front) (sym c.deref.ensures.value) read in
+    let size = c.in_ok-has_size.ensures.told all tells c.if-not-branch.false in
+    let long = subst (λ (end : ℕ). end ≤ length whole) c.end.ensures size.0 in
+    c.lines_by_front.ensures.told all tells (core_told c.deref.result.now whole value c.in-Some-parse.ensures.front begin long size.1)
