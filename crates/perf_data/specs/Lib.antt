@@ -11,5 +11,7 @@ pub mod Records
 pub mod FileValue
 -- What the code's values say.
 pub mod Views
+-- What a reader and its source have left.
+pub mod Streams
 -- A worked example.
 pub mod Sample

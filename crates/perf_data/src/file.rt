@@ -38,7 +38,7 @@ impl<'a> Model for PerfFile<'a> {
 
 /// The layout that the attributes of a file share.
 #[tactic(auto, unfolding(crate::specs::FileValue::shared_layout))]
-fn shared_layout(bytes: &[u8]) -> Result<Layout, PerfError>
+pub(crate) fn shared_layout(bytes: &[u8]) -> Result<Layout, PerfError>
     requires { 72 ≤ length bytes.now }
     ensures { result ≡ shared_layout bytes.now }
 {

@@ -12,7 +12,8 @@ const MAGIC: [u8; 8] = *b"PERFILE2";
 // the same number in the other byte order
 const FOREIGN_MAGIC: [u8; 8] = *b"2ELIFREP";
 
-const HEADER_SIZE: usize = 104;
+/// The size of the header of a file.
+pub(crate) const HEADER_SIZE: usize = 104;
 
 // the header of older files has no bits of features
 const OLDER_HEADER_SIZE: usize = 72;

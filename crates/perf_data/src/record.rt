@@ -1,6 +1,7 @@
 // A record, and what it says.
 ghost use Rattle.std.specs.Prelude.{◌≡◌, ◌≤◌, length, IfOk};
 ghost use Rattle.memory_image.specs.Results.{result_map};
+ghost use Rattle.memory_image.specs.Words.{u16_at};
 ghost use Rattle.perf_data.specs.Records.{first_framed, record_of, first_record};
 ghost use Rattle.perf_data.specs.Records.{sample_in, mapping_in, name_in, fork_in, exit_in};
 ghost use Rattle.perf_data.specs.Views.{framed_value, framed_pair, record_value, record_pair};
@@ -65,6 +66,7 @@ pub(crate) struct Framed<'a> {
 fn first_framed(offset: u64, bytes: &[u8]) -> Result<(Framed<'_>, usize), PerfError>
     ensures value { result_map framed_pair result ≡ first_framed offset bytes.now }
     ensures within { IfOk result (λ p. (8 ≤ p.1) × (p.1 ≤ length bytes.now)) }
+    ensures word { 8 ≤ length bytes.now → u16_at bytes.now 6 ≤ 65535 }
 {
     if bytes.len() < HEADER_SIZE {
         return Err(PerfError::Cut(offset));
@@ -161,6 +163,7 @@ pub(crate) fn first_record<'a>(
 ) -> Result<(Record<'a>, usize), PerfError>
     ensures value { result_map record_pair result ≡ first_record layout.now offset bytes.now }
     ensures within { IfOk result (λ p. (8 ≤ p.1) × (p.1 ≤ length bytes.now)) }
+    ensures word { 8 ≤ length bytes.now → u16_at bytes.now 6 ≤ 65535 }
 {
     let (framed, size) = first_framed(offset, bytes)?;
     let record = record_of(layout, offset, &framed)?;
