@@ -1,8 +1,7 @@
 -- When two stacks are the same one to a map.
-use Rattle.std.proofs.Common.{◌≡◌, ℕ, Bool, true, false, cond, ◌&&◌, List, ◌∷◌, [], Option, Some, None, Bor, refl, sym, ap, ◌∙◌, rules}
+use Rattle.std.proofs.Common.{◌≡◌, ℕ, Bool, true, false, cond, ◌&&◌, List, ◌∷◌, [], Option, Some, None, refl, sym, ap, ◌∙◌, rules}
 use Rattle.std.specs.Prelude.{nat_eq}
 use Rattle.std.proofs.Math.Bool.{beq}
-use Rattle.std.specs.Option.{option_eq, option_map}
 use Rattle.std.specs.Cmp.Lexicographic.{pointwise, bytes_decides}
 use Rattle.std.specs.Map.{lookup}
 use denote.Enum.Bare.{same_true}
@@ -20,26 +19,20 @@ both_true true true e = (refl, refl)
 both_true true false e = absurd cc
 both_true false b e = absurd cc
 
-abbrev same_name : Option (Bor (List ℕ)) → Option (Bor (List ℕ)) → Bool
-same_name = option_eq (λ x y. pointwise nat_eq x.now y.now)
-
 -- a stack of this name, end, mark and return addresses is that of a key
-abbrev key_eq : Option (Bor (List ℕ)) → StackEnd → Bool → List ℕ → SampledStack → Bool
-key_eq name end popped returns k = same_name name k.name && (ends.eq-value.it end k.end && (beq popped k.popped && pointwise nat_eq returns k.returns.items))
+abbrev key_eq : Bool → List ℕ → StackEnd → Bool → List ℕ → SampledStack → Bool
+key_eq named name end popped returns k = beq named k.named && (pointwise nat_eq name k.name.items && (ends.eq-value.it end k.end && (beq popped k.popped && pointwise nat_eq returns k.returns.items)))
 
-eq_is : (a k : SampledStack) → stacks.eq-value.it a k ≡ key_eq a.name a.end a.popped a.returns.items k
+eq_is : (a k : SampledStack) → stacks.eq-value.it a k ≡ key_eq a.named a.name.items a.end a.popped a.returns.items k
 eq_is a k = refl
 
 -- a copy is the same as each key that the stack is the same as
-pub copy_same : (a b : SampledStack) → a.name ≡ b.name → a.end ≡ b.end → a.popped ≡ b.popped → a.returns.items ≡ b.returns.items → (k : SampledStack) → stacks.eq-value.it a k ≡ stacks.eq-value.it b k
-copy_same a b names ends marks returns k = eq_is a k ∙ ((λ i. key_eq (names i) (ends i) (marks i) (returns i) k) ∙ sym (eq_is b k))
+pub copy_same : (a b : SampledStack) → a.named ≡ b.named → a.name.items ≡ b.name.items → a.end ≡ b.end → a.popped ≡ b.popped → a.returns.items ≡ b.returns.items → (k : SampledStack) → stacks.eq-value.it a k ≡ stacks.eq-value.it b k
+copy_same a b named names ends marks returns k = eq_is a k ∙ ((λ i. key_eq (named i) (names i) (ends i) (marks i) (returns i) k) ∙ sym (eq_is b k))
 
 -- and what is told of stacks that are the same is the same
-names_same : (m n : Option (Bor (List ℕ))) → same_name m n ≡ true → option_map (λ (x : Bor (List ℕ)). x.now) m ≡ option_map (λ (x : Bor (List ℕ)). x.now) n
-names_same None None e = refl
-names_same None (Some y) e = absurd cc
-names_same (Some x) None e = absurd cc
-names_same (Some x) (Some y) e = ap (λ (t : List ℕ). Some t) ((bytes_decides x.now y.now).0 e)
+abbrev name_by : Bool → List ℕ → Option (List ℕ)
+name_by named name = cond named (Some name) None
 
 ends_same : (a b : StackEnd) → ends.eq-value.it a b ≡ true → a ≡ b
 ends_same a b e = same_true the_type (search rules) a b e
@@ -53,17 +46,20 @@ marks_same false true e = absurd cc
 pub same_text : (a k : SampledStack) → stacks.eq-value.it a k ≡ true → (origins : List OriginValue) → shown_text origins k ≡ shown_text origins a
 same_text a k e origins =
     let returned = pointwise nat_eq a.returns.items k.returns.items in
-    let parts = both_true (same_name a.name k.name) (ends.eq-value.it a.end k.end && (beq a.popped k.popped && returned)) (sym (eq_is a k) ∙ e) in
+    let spelled = pointwise nat_eq a.name.items k.name.items in
+    let all = both_true (beq a.named k.named) (spelled && (ends.eq-value.it a.end k.end && (beq a.popped k.popped && returned))) (sym (eq_is a k) ∙ e) in
+    let parts = both_true spelled (ends.eq-value.it a.end k.end && (beq a.popped k.popped && returned)) all.1 in
     let others = both_true (ends.eq-value.it a.end k.end) (beq a.popped k.popped && returned) parts.1 in
     let last = both_true (beq a.popped k.popped) returned others.1 in
-    let name = names_same a.name k.name parts.0 in
+    let named = marks_same a.named k.named all.0 in
+    let name = (bytes_decides a.name.items k.name.items).0 parts.0 in
     let end = ends_same a.end k.end others.0 in
     let popped = marks_same a.popped k.popped last.0 in
     let returns = (bytes_decides a.returns.items k.returns.items).0 last.1 in
-    sym (λ i. stack_text origins (name i) (record { returns = returns i; end = end i; popped = popped i }))
+    sym (λ i. stack_text origins (name_by (named i) (name i)) (record { returns = returns i; end = end i; popped = popped i }))
 
-pub copy_text : (a b : SampledStack) → a.name ≡ b.name → a.end ≡ b.end → a.popped ≡ b.popped → a.returns.items ≡ b.returns.items → (origins : List OriginValue) → shown_text origins a ≡ shown_text origins b
-copy_text a b names ends marks returns origins = λ i. stack_text origins (option_map (λ (x : Bor (List ℕ)). x.now) (names i)) (record { returns = returns i; end = ends i; popped = marks i })
+pub copy_text : (a b : SampledStack) → a.named ≡ b.named → a.name.items ≡ b.name.items → a.end ≡ b.end → a.popped ≡ b.popped → a.returns.items ≡ b.returns.items → (origins : List OriginValue) → shown_text origins a ≡ shown_text origins b
+copy_text a b named names ends marks returns origins = λ i. stack_text origins (name_by (named i) (names i)) (record { returns = returns i; end = ends i; popped = marks i })
 
 -- tests that answer alike find the same
 pub lookup_same : {K X : Type 0} (test other : K → Bool) (es : List (K × X)) → ((k : K) → test k ≡ other k) → lookup test es ≡ lookup other es

@@ -8,3 +8,4 @@ pub mod WalkLemmas
 pub mod ProfileLemmas
 pub mod ScriptLemmas
 pub mod KnownLemmas
+pub mod StreamedLemmas

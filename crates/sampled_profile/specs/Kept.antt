@@ -18,7 +18,7 @@ use Rattle.sampled_profile.specs.Tables.{ShowsStacks, total_of}
 
 -- the name that is kept of a thread, and its parent
 abbrev pub own_kept : ThreadNames → ℕ → Option (List ℕ)
-own_kept names thread = option_map (λ name. name.now) (get nat_cmp names.names thread)
+own_kept names thread = option_map (λ name. name.items) (get nat_cmp names.names thread)
 
 abbrev pub parent_kept : ThreadNames → ℕ → Option ℕ
 parent_kept names thread = get nat_cmp names.parents thread

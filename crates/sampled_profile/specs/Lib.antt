@@ -14,3 +14,5 @@ pub mod CountViews
 pub mod Tables
 pub mod Reading
 pub mod Kept
+-- What is told of a file that is read from a source.
+pub mod Streamed

@@ -1,5 +1,5 @@
 -- Stacks by their addresses with their counts, as a map keeps them. No public clause cites this.
-use Rattle.std.specs.Prelude.{◌≡◌, ℕ, ◌+◌, ◌≤◌, false, cond, List, [], ◌∷◌, length, slice_range, Option, option_map}
+use Rattle.std.specs.Prelude.{◌≡◌, ℕ, ◌+◌, ◌≤◌, false, cond, List, [], ◌∷◌, length, slice_range, Option, Some, None, if◌then◌else◌}
 use Rattle.std.specs.List.{count_by, sum_by}
 use Rattle.folded_stacks.specs.Counts.{StackCount}
 use Rattle.folded_stacks.specs.Stacks.{is_same}
@@ -12,7 +12,7 @@ use Rattle.sampled_profile.specs.Texts.{frame_text, stack_text}
 
 -- what is told of a stack
 abbrev pub shown_name : SampledStack → Option (List ℕ)
-shown_name stack = option_map (λ name. name.now) stack.name
+shown_name stack = if stack.named then Some stack.name.items else None
 
 abbrev pub shown_walk : SampledStack → StackWalk
 shown_walk stack = record { returns = stack.returns.items; end = stack.end; popped = stack.popped }

@@ -155,7 +155,7 @@ impl<'o> FrameTexts<'o> {
     pub(crate) fn put_stack(
         &mut self,
         report: &mut Report,
-        stack: &SampledStack<'_>,
+        stack: &SampledStack,
     ) -> Result<(), AllocError>
         ensures text { OnOk result
             (report.new ≡ report.old ++ shown_text self.old stack.now) }

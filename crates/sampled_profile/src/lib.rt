@@ -18,6 +18,7 @@ mod records;
 mod script;
 mod stack_end;
 mod stack_table;
+mod streamed;
 mod text_counts;
 mod texts;
 mod walks;
@@ -29,3 +30,4 @@ pub use laws::{
 pub use profile::{Profile, ProfileError, profile_of};
 pub use script::script_of;
 pub use stack_end::StackEnd;
+pub use streamed::{profile_of_source, script_of_source};

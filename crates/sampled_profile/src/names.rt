@@ -15,27 +15,32 @@ const MOST: u32 = 16;
 
 /// The names of threads, and which thread started which.
 #[derive(Drop)]
-pub(crate) struct ThreadNames<'a> {
-    names: BTreeMap<u32, &'a [u8]>,
+pub(crate) struct ThreadNames {
+    alloc: Global,
+    names: BTreeMap<u32, Vec<u8>>,
     parents: BTreeMap<u32, u32>,
 }
 
-impl<'a> ThreadNames<'a> {
+impl ThreadNames {
     /// No names. It takes no memory yet.
-    pub(crate) fn new(alloc: Global) -> ThreadNames<'a>
+    pub(crate) fn new(alloc: Global) -> ThreadNames
         ensures { Knows result [] }
     {
         ThreadNames {
+            alloc,
             names: BTreeMap::new(alloc),
             parents: BTreeMap::new(alloc),
         }
     }
 
     /// A thread's own name.
-    fn own(&self, thread: u32) -> Option<&'a [u8]>
+    fn own(&self, thread: u32) -> Option<&[u8]>
         ensures { option_map (λ name. name.now) result ≡ own_kept self.now thread }
     {
-        self.names.get(&thread).copied()
+        match self.names.get(&thread) {
+            Some(name) => Some(name.as_slice()),
+            None => None,
+        }
     }
 
     /// The thread that started a thread.
@@ -46,7 +51,7 @@ impl<'a> ThreadNames<'a> {
     }
 
     /// The name of a thread or of one that it comes from, of at most so many.
-    fn name_within(&self, most: u32, thread: u32) -> Option<&'a [u8]>
+    fn name_within(&self, most: u32, thread: u32) -> Option<&[u8]>
         ensures { option_map (λ name. name.now) result ≡ name_kept self.now most thread }
     {
         if most == 0 {
@@ -62,7 +67,7 @@ impl<'a> ThreadNames<'a> {
     }
 
     /// The name of a thread.
-    pub(crate) fn name(&self, thread: u32) -> Option<&'a [u8]>
+    pub(crate) fn name(&self, thread: u32) -> Option<&[u8]>
         ensures { (earlier : List RecordValue) → Knows self.now earlier →
             option_map (λ name. name.now) result ≡ name_in earlier thread }
     {
@@ -70,11 +75,12 @@ impl<'a> ThreadNames<'a> {
     }
 
     /// Names a thread.
-    fn name_thread(&mut self, name: &Comm<'a>) -> Result<(), AllocError>
+    fn name_thread(&mut self, name: &Comm<'_>) -> Result<(), AllocError>
         ensures { OnOk result ((earlier : List RecordValue) → Knows self.old earlier →
             Knows self.new (Named (name_value name.now) ∷ earlier)) }
     {
-        self.names.insert(name.thread.tid, name.name)?;
+        let kept = Vec::from_slice(self.alloc, name.name)?;
+        self.names.insert(name.thread.tid, kept)?;
         Ok(())
     }
 
@@ -88,7 +94,7 @@ impl<'a> ThreadNames<'a> {
     }
 
     /// Takes what a record says of names.
-    pub(crate) fn note(&mut self, entry: &Record<'a>) -> Result<(), AllocError>
+    pub(crate) fn note(&mut self, entry: &Record<'_>) -> Result<(), AllocError>
         ensures { OnOk result ((earlier : List RecordValue) → Knows self.old earlier →
             Knows self.new (record_value entry.now ∷ earlier)) }
     {
@@ -101,7 +107,7 @@ impl<'a> ThreadNames<'a> {
 }
 
 /// The name of a sample's thread.
-pub(crate) fn name_of<'a>(names: &ThreadNames<'a>, sample: &Sample<'_>) -> Option<&'a [u8]>
+pub(crate) fn name_of<'n>(names: &'n ThreadNames, sample: &Sample<'_>) -> Option<&'n [u8]>
     ensures { (earlier : List RecordValue) → Knows names.now earlier →
         option_map (λ name. name.now) result ≡ name_of earlier (sample_value sample.now).thread }
 {

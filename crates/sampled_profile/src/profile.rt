@@ -58,7 +58,7 @@ impl From<AllocError> for ProfileError {
 /// Contracts see the texts with their counts.
 #[derive(Drop)]
 pub struct Profile {
-    counts: StackCounts,
+    pub(crate) counts: StackCounts,
 }
 
 impl Model for Profile {
@@ -85,15 +85,15 @@ impl Profile {
 
 /// What is known after the records so far, and the room and the stack of a walk.
 #[derive(Drop)]
-pub(crate) struct Tally<'a> {
-    names: ThreadNames<'a>,
-    stacks: StackTable<'a>,
+pub(crate) struct Tally {
+    names: ThreadNames,
+    pub(crate) stacks: StackTable,
     room: Room,
-    last: SampledStack<'a>,
+    last: SampledStack,
 }
 
 /// Nothing is known yet.
-fn empty_tally<'a>(alloc: Global, limit: u32) -> Result<Tally<'a>, AllocError>
+pub(crate) fn empty_tally(alloc: Global, limit: u32) -> Result<Tally, AllocError>
     ensures { IfOk result (λ tally. (space : SpaceValue) (origins : List OriginValue) →
         IsTally (tables space origins limit) tally []) }
 {
@@ -110,7 +110,7 @@ fn count_sample(
     space: &Space<'_>,
     limit: u32,
     sample: &Sample<'_>,
-    tally: &mut Tally<'_>,
+    tally: &mut Tally,
 ) -> Result<(), AllocError>
     requires places { limit ≤ tally.old.room.limit }
     requires few { total_of tally.old.stacks.counts.entries + 1 < 2 ^ 64 }
@@ -130,11 +130,11 @@ fn count_sample(
 }
 
 /// Takes what a record says.
-fn note_record<'a>(
+pub(crate) fn note_record(
     space: &Space<'_>,
     limit: u32,
-    entry: &Record<'a>,
-    tally: &mut Tally<'a>,
+    entry: &Record<'_>,
+    tally: &mut Tally,
 ) -> Result<(), AllocError>
     requires places { tally.old.room.limit ≡ limit }
     requires few { total_of tally.old.stacks.counts.entries + 1 < 2 ^ 64 }
@@ -149,12 +149,12 @@ fn note_record<'a>(
 }
 
 /// Takes what each record says.
-fn tally_records<'a>(
+fn tally_records(
     alloc: Global,
     space: &Space<'_>,
     limit: u32,
-    records: Records<'a>,
-) -> Result<StackTable<'a>, ProfileError>
+    records: Records<'_>,
+) -> Result<StackTable, ProfileError>
     requires { length (records_left records) < 2 ^ 64 }
     ensures { Counts result (λ origins. tables space.now origins limit)
         (records_left records.entry) }

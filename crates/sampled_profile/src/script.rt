@@ -24,14 +24,14 @@ use std::alloc::{AllocError, Global};
 
 /// What is known after the records so far, the lines of their samples, and the room of a walk.
 #[derive(Drop)]
-pub(crate) struct Script<'a> {
-    names: ThreadNames<'a>,
+pub(crate) struct Script {
+    names: ThreadNames,
     room: Room,
-    text: Report,
+    pub(crate) text: Report,
 }
 
 /// Nothing is known yet.
-fn empty_script<'a>(alloc: Global, limit: u32) -> Result<Script<'a>, AllocError>
+pub(crate) fn empty_script(alloc: Global, limit: u32) -> Result<Script, AllocError>
     ensures { IfOk result (λ script. (space : SpaceValue) (origins : List OriginValue) →
         IsScript (tables space origins limit) script []) }
 {
@@ -48,7 +48,7 @@ fn put_sample(
     origins: &Origins,
     limit: u32,
     sample: &Sample<'_>,
-    script: &mut Script<'_>,
+    script: &mut Script,
 ) -> Result<(), AllocError>
     requires { limit ≤ script.old.room.limit }
     ensures text { OnOk result ((earlier : List RecordValue) → Knows script.old.names earlier →
@@ -64,12 +64,12 @@ fn put_sample(
 }
 
 /// Takes what a record says.
-fn note_record<'a>(
+pub(crate) fn note_record(
     space: &Space<'_>,
     origins: &Origins,
     limit: u32,
-    entry: &Record<'a>,
-    script: &mut Script<'a>,
+    entry: &Record<'_>,
+    script: &mut Script,
 ) -> Result<(), AllocError>
     requires { script.old.room.limit ≡ limit }
     ensures { OnOk result ((earlier : List RecordValue) →
@@ -84,12 +84,12 @@ fn note_record<'a>(
 }
 
 /// Takes what each record says.
-fn script_records<'a>(
+fn script_records(
     alloc: Global,
     space: &Space<'_>,
     origins: &Origins,
     limit: u32,
-    records: Records<'a>,
+    records: Records<'_>,
 ) -> Result<Report, ProfileError>
     ensures { Gives result
         (script_of (tables space.now origins.now limit) (records_left records.entry)) }

@@ -14,18 +14,20 @@ use std::collections::HashMap;
 /// The stack of a sample: the name of its thread, the return addresses of its frames, the innermost
 /// first, why there are no more, and whether popped registers were kept.
 #[derive(PartialEq, Eq, Hash, Drop)]
-pub(crate) struct SampledStack<'a> {
-    name: Option<&'a [u8]>,
+pub(crate) struct SampledStack {
+    named: bool,
+    name: Vec<u8>,
     end: StackEnd,
     popped: bool,
     returns: Vec<u64>,
 }
 
-impl<'a> SampledStack<'a> {
+impl SampledStack {
     /// No frames. It takes no memory yet.
-    pub(crate) fn new(alloc: Global) -> SampledStack<'a> {
+    pub(crate) fn new(alloc: Global) -> SampledStack {
         SampledStack {
-            name: None,
+            named: false,
+            name: Vec::new(alloc),
             end: StackEnd::Outermost,
             popped: false,
             returns: Vec::new(alloc),
@@ -33,10 +35,10 @@ impl<'a> SampledStack<'a> {
     }
 
     /// The name of the thread.
-    pub(crate) fn name(&self) -> Option<&'a [u8]>
+    pub(crate) fn name(&self) -> Option<&[u8]>
         ensures { option_map (λ n. n.now) result ≡ shown_name self.now }
     {
-        self.name
+        if self.named { Some(&self.name) } else { None }
     }
 
     /// Why there are no more frames.
@@ -75,6 +77,25 @@ impl<'a> SampledStack<'a> {
         Ok(())
     }
 
+    /// Puts the name of a thread in the place of its own.
+    fn set_name(&mut self, name: Option<&[u8]>) -> Result<(), AllocError>
+        ensures name { OnOk result (shown_name self.new ≡ option_map (λ n. n.now) name.entry) }
+        ensures end { self.new.end ≡ self.old.end }
+        ensures popped { self.new.popped ≡ self.old.popped }
+    {
+        self.name.clear();
+        match name {
+            Some(name) => {
+                self.named = true;
+                self.name.extend_from_slice(name)
+            }
+            None => {
+                self.named = false;
+                Ok(())
+            }
+        }
+    }
+
     /// Becomes the stack of a thread of this name that the states in a room show.
     ///
     /// # Errors
@@ -82,28 +103,30 @@ impl<'a> SampledStack<'a> {
     /// `AllocError` where memory ran out.
     pub(crate) fn set(
         &mut self,
-        name: Option<&'a [u8]>,
+        name: Option<&[u8]>,
         marks: WalkMarks,
         room: &Room,
     ) -> Result<(), AllocError>
         ensures name { OnOk result (shown_name self.new ≡ option_map (λ n. n.now) name.entry) }
         ensures walk { OnOk result (shown_walk self.new ≡ marked_walk room.now.visited marks) }
     {
-        self.name = name;
+        self.set_name(name)?;
         self.end = marks.end;
         self.popped = marks.popped;
         self.set_returns(room)
     }
 
     /// The same stack once more.
-    fn copied(&self, alloc: Global) -> Result<SampledStack<'a>, AllocError>
-        ensures name { IfOk result (λ stack. stack.name ≡ self.now.name) }
+    fn copied(&self, alloc: Global) -> Result<SampledStack, AllocError>
+        ensures named { IfOk result (λ stack. stack.named ≡ self.now.named) }
+        ensures name { IfOk result (λ stack. stack.name.items ≡ self.now.name.items) }
         ensures end { IfOk result (λ stack. stack.end ≡ self.now.end) }
         ensures popped { IfOk result (λ stack. stack.popped ≡ self.now.popped) }
         ensures returns { IfOk result (λ stack. stack.returns.items ≡ self.now.returns.items) }
     {
         Ok(SampledStack {
-            name: self.name,
+            named: self.named,
+            name: Vec::from_slice(alloc, &self.name)?,
             end: self.end,
             popped: self.popped,
             returns: Vec::from_slice(alloc, &self.returns)?,
@@ -113,14 +136,14 @@ impl<'a> SampledStack<'a> {
 
 /// Distinct stacks, each with the number of the samples that show it.
 #[derive(Drop)]
-pub(crate) struct StackTable<'a> {
+pub(crate) struct StackTable {
     alloc: Global,
-    pub(crate) counts: HashMap<SampledStack<'a>, u64>,
+    pub(crate) counts: HashMap<SampledStack, u64>,
 }
 
-impl<'a> StackTable<'a> {
+impl StackTable {
     /// No stacks. It takes no memory yet.
-    pub(crate) fn new(alloc: Global) -> StackTable<'a>
+    pub(crate) fn new(alloc: Global) -> StackTable
         ensures { result.counts.entries ≡ [] }
     {
         StackTable {
@@ -134,7 +157,7 @@ impl<'a> StackTable<'a> {
     /// # Errors
     ///
     /// `AllocError` where memory ran out.
-    pub(crate) fn count(&mut self, stack: &SampledStack<'a>) -> Result<(), AllocError>
+    pub(crate) fn count(&mut self, stack: &SampledStack) -> Result<(), AllocError>
         requires { total_of self.old.counts.entries + 1 < 2 ^ 64 }
         ensures { OnOk result
             (CountsOneMore stack.now self.old.counts.entries self.new.counts.entries) }

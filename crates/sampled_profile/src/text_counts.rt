@@ -18,7 +18,7 @@ use std::alloc::{AllocError, Global};
 pub(crate) fn counts_by_text(
     alloc: Global,
     origins: &Origins,
-    table: &StackTable<'_>,
+    table: &StackTable,
 ) -> Result<StackCounts, AllocError>
     requires { total_of table.now.counts.entries < 2 ^ 64 }
     ensures { IfOk result (λ counts. (stacks : List (List ℕ)) →
