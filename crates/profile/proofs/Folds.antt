@@ -1,6 +1,5 @@
 -- What is due of a perf.data file of which each record is read, in either form.
-use Rattle.std.proofs.Common.{◌≡◌, ◌^◌, ℕ, false, ltb, List, length, Result, sym, ap, ◌∙◌}
-use Rattle.std.proofs.lemmas.Bool.{le-ltb}
+use Rattle.std.proofs.Common.{◌≡◌, ℕ, List, Result, sym, ap, ◌∙◌}
 use Rattle.memory_image.specs.Results.{result_map}
 use Rattle.perf_data.specs.Records.{RecordValue}
 use Rattle.perf_data.specs.declared.errors.PerfError.{PerfError}
@@ -22,17 +21,15 @@ use Rattle.profile.specs.Due.{Asks, due_of, lines_due, told_by}
 pub asked_due : (words : List (List ℕ)) (file bytes : List ℕ) (t : Tables) (records : List RecordValue) (lines : List StackCount) → Asks Folded words file bytes t records → IsFolded (stacks_of t records) lines
     → due_of words file bytes ≡ verdict Done (profile_text lines)
 asked_due words file bytes t records lines asks is =
-    let short : ltb (2 ^ 26) (length bytes) ≡ false = le-ltb (2 ^ 26) (length bytes) asks.short in
     let due = due_done t asks.profile.records records asks.whole in
     let same = folded_once (stacks_of t records) (counts_of (stacks_of t records)) lines (counts_folded (stacks_of t records)) is in
-    rw (asks.named, short, asks.reads, asks.holds)
+    rw (asks.named, asks.reads, asks.holds)
     (ap (λ (u : Tables). lines_due (told_by u Folded asks.profile.records)) (sym asks.walked)
     ∙ (ap (λ r. lines_due (result_map profile_text r)) due ∙ ap (λ ls. verdict Done (profile_text ls)) same))
 
 pub script_due : (words : List (List ℕ)) (file bytes : List ℕ) (t : Tables) (records : List RecordValue) → Asks Script words file bytes t records → due_of words file bytes ≡ verdict Done (script_text t records)
 script_due words file bytes t records asks =
-    let short : ltb (2 ^ 26) (length bytes) ≡ false = le-ltb (2 ^ 26) (length bytes) asks.short in
-    rw (asks.named, short, asks.reads, asks.holds)
+    rw (asks.named, asks.reads, asks.holds)
     (ap (λ (u : Tables). lines_due (told_by u Script asks.profile.records)) (sym asks.walked) ∙ ap lines_due (script_done t asks.profile.records records asks.whole))
 
 -- over prepared modules

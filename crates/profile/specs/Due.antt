@@ -1,12 +1,13 @@
 -- What a run is to answer, and what it is to write.
-use Rattle.std.specs.Prelude.{◌≡◌, ◌≤◌, ◌^◌, ℕ, List, [], ◌∷◌, length, Option, Some, None, Result, Ok, Err, bytes_eq, codes, if◌then◌else◌}
+use Rattle.std.specs.Prelude.{◌≡◌, ℕ, List, [], ◌∷◌, Option, Some, None, Result, Ok, Err, bytes_eq, codes, if◌then◌else◌}
 use Rattle.memory_image.specs.Results.{result_map}
 use Rattle.perf_data.specs.declared.errors.PerfError.{PerfError}
 use Rattle.perf_data.specs.FileValue.{PerfValue, perf_of}
 use Rattle.perf_data.specs.Records.{RecordValue}
+use Rattle.perf_data.specs.Streams.{DueRecords}
 use Rattle.command_ends.specs.declared.status.Status.TheVariants.{Done, Usage, Refused}
 use Rattle.command_ends.specs.Verdicts.{Verdict, verdict}
-use Rattle.command_ends.specs.Answers.{fault_due, within_limit}
+use Rattle.command_ends.specs.Answers.{fault_due}
 use Rattle.stack_snapshot.specs.declared.errors.SnapshotError.{SnapshotError}
 use Rattle.stack_snapshot.specs.Answers.{content_of, value_of}
 use Rattle.stack_snapshot.specs.Content.{Content, space_of}
@@ -57,6 +58,11 @@ abbrev pub lines_due : Result (List ℕ) PerfError → Verdict
 lines_due (Ok text) = verdict Done text
 lines_due (Err e) = verdict Refused (refused_line e)
 
+-- of the records that are due of a file, or of why it isn't read
+abbrev pub told_due : Tables → Form → DueRecords → Result (List ℕ) PerfError
+told_due t form (Ok records) = told_by t form records
+told_due t form (Err e) = Err e
+
 abbrev pub file_due : Tables → Form → Result PerfValue PerfError → Verdict
 file_due t form (Ok file) = lines_due (told_by t form file.records)
 file_due t form (Err e) = verdict Refused (refused_line e)
@@ -66,9 +72,13 @@ abbrev pub content_due : List OriginValue → Form → List ℕ → Result Conte
 content_due origins form bytes (Ok s) = file_due (tables_of s origins) form (perf_of bytes)
 content_due origins form bytes (Err error) = fault_due error
 
--- at most 67,108,864 bytes are read as a perf.data file
+-- the same, by the records that are due
+abbrev pub read_due : List OriginValue → Form → DueRecords → Result Content SnapshotError → Verdict
+read_due origins form due (Ok s) = lines_due (told_due (tables_of s origins) form due)
+read_due origins form due (Err error) = fault_due error
+
 abbrev pub bytes_due : List ℕ → Form → List ℕ → Verdict
-bytes_due file form bytes = within_limit bytes (content_due (origins_by (value_of file)) form bytes (content_of file))
+bytes_due file form bytes = content_due (origins_by (value_of file)) form bytes (content_of file)
 
 abbrev pub words_due : List ℕ → List ℕ → Option RequestValue → Verdict
 words_due file bytes None = verdict Usage usage_line
@@ -78,12 +88,11 @@ words_due file bytes (Some request) = bytes_due file request.form bytes
 abbrev pub due_of : List (List ℕ) → List ℕ → List ℕ → Verdict
 due_of words file bytes = words_due file bytes (request_in words)
 
--- The words ask for this form and name a file, whose bytes are a snapshot of modules from these files, and all bytes of the source, at
--- most 67,108,864, are a perf.data file with these records, each of which is read.
+-- The words ask for this form and name a file, whose bytes are a snapshot of modules from these files, and all bytes of the source are
+-- a perf.data file with these records, each of which is read.
 pub record Asks (form : Form) (words : List (List ℕ)) (file : List ℕ) (bytes : List ℕ) (t : Tables) (records : List RecordValue) : Type 0 where
   pub path : List ℕ
   pub named : request_in words ≡ Some (record { form = form; path = path })
-  pub short : length bytes ≤ 2 ^ 26
   pub content : Content
   pub reads : content_of file ≡ Ok content
   pub walked : t ≡ tables_of content (origins_by (value_of file))

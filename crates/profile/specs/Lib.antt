@@ -1,5 +1,6 @@
 pub mod Lines
 pub mod Due
+pub mod Reading
 pub mod Sample
 pub mod KnownSample
 pub mod PoppedSample

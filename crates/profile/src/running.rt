@@ -1,15 +1,15 @@
 // One run of the program, from its words, its tables and its input to its output.
-ghost use Rattle.std.specs.Prelude.{◌≡◌, ◌≢◌, ◌++◌, ℕ, List, Result, IfOk, IfSome, IsSome, None, ⊤};
+ghost use Rattle.std.specs.Prelude.{◌≡◌, ◌≢◌, ◌⊎◌, ◌++◌, [], ℕ, List, Result, IfOk, IfSome, IsErrOf};
+ghost use Rattle.std.specs.Prelude.{IsSome, None, ⊤};
 ghost use Rattle.std.specs.Io.KnownBytes.{Keeps};
 ghost use Rattle.memory_image.specs.Ends.{Rose};
-ghost use Rattle.memory_image.specs.Results.{result_map};
-ghost use Rattle.command_ends.specs.Answers.{AnswersBytes, KeepsToEnds, LeavesSource};
 ghost use Rattle.command_ends.specs.Verdicts.{ComesExactly, IsReady, IsReadyOrFailed, Tells};
 ghost use Rattle.command_ends.specs.Verdicts.{verdict};
 ghost use Rattle.perf_data.specs.declared.errors.PerfError.{PerfError};
-ghost use Rattle.perf_data.specs.FileValue.{perf_of};
 ghost use Rattle.perf_data.specs.Records.{RecordValue};
 ghost use Rattle.perf_data.specs.Samples.{SampleValue};
+ghost use Rattle.perf_data.specs.Streams.{GoesOn};
+ghost use Rattle.perf_data.specs.Streams as streams;
 ghost use Rattle.unwind_definitions.specs.State.{State};
 ghost use Rattle.folded_stacks.specs.Counts.{StackCount, HasStack, IsFolded};
 ghost use Rattle.stack_snapshot.specs.Answers.{content_of, value_of};
@@ -17,22 +17,20 @@ ghost use Rattle.stack_snapshot.specs.Content.{space_of};
 ghost use Rattle.stack_snapshot.specs.Origins.{OriginValue, origins_by};
 ghost use Rattle.sampled_profile.specs.KnownSamples.{BeginsKnownStack, HasSample};
 ghost use Rattle.sampled_profile.specs.KnownSamples.{known_lines, known_text};
-ghost use Rattle.sampled_profile.specs.Profiles.{Tables, profile_of, profile_text, stacks_of};
-ghost use Rattle.sampled_profile.specs.Profiles.{tables};
+ghost use Rattle.sampled_profile.specs.Profiles.{Tables, profile_text, stacks_of, tables};
 ghost use Rattle.sampled_profile.specs.Scripts.{script_text};
-ghost use Rattle.sampled_profile.specs.Told.{Gives};
-ghost use Rattle.profile.specs.Due.{Asks, bytes_due, content_due, due_of, file_due};
-ghost use Rattle.profile.specs.Due.{request_in, tables_of, told_by};
+ghost use Rattle.sampled_profile.specs.Streamed.{GivesStreamed};
+ghost use Rattle.profile.specs.Due.{Asks, bytes_due, due_of, lines_due, read_due};
+ghost use Rattle.profile.specs.Due.{request_in, tables_of, told_by, told_due};
 ghost use Rattle.profile.specs.Lines.{usage_line};
+ghost use Rattle.profile.specs.Reading.{IsFailure, IsOfSource, KeepsToEnds, LeavesSource};
 
 use crate::lines::{refused_line, usage_line};
 use crate::request::{Form, request_of};
-use command_ends::{
-    Answer, Status, Words, fault_answer, read_input, silent_answer, text_answer, write_answer,
-};
+use command_ends::{Answer, Status, Words, fault_answer, silent_answer, text_answer, write_answer};
 use memory_image::{Sink, Source};
-use perf_data::PerfFile;
-use sampled_profile::{ProfileError, profile_of, script_of};
+use perf_data::{OpenFile, StreamError, open_file, pass_source};
+use sampled_profile::{profile_of_source, script_of_source};
 use stack_deliver::Space;
 use stack_report::Report;
 use stack_snapshot::{Origins, Snapshot, read_named_snapshot};
@@ -52,103 +50,167 @@ fn prepared_space(alloc: Global, snapshot: &Snapshot) -> Result<Space<'_>, Alloc
 }
 
 /// The lines of the distinct stacks of a perf.data file.
-fn folded_lines(
+fn folded_lines<I: Source>(
     alloc: Global,
     space: &Space<'_>,
     origins: &Origins,
     limit: u32,
-    file: &PerfFile<'_>,
-) -> Result<Report, ProfileError>
-    ensures { Gives result (result_map profile_text
-        (profile_of (tables space.now origins.now limit) file.now.records)) }
+    file: OpenFile,
+    input: &mut I,
+) -> Result<Report, StreamError>
+    ensures due { IfSome (streams.due_of file (I.left input.old)) (λ due.
+        GivesStreamed result (told_due (tables space.now origins.now limit) Form.Folded due)) }
+    ensures on { GoesOn (I.left input.old) (I.left input.new) (I.faults input.old)
+        (I.faults input.new) }
+    ensures fault { IsErrOf result StreamError.Fault →
+        Rose (I.faults input.old) (I.faults input.new) }
 {
-    let profile = profile_of(alloc, space, origins, limit, file)?;
+    let profile = profile_of_source(alloc, space, origins, limit, file, input)?;
     let mut report = Report::new(alloc);
     profile.put_lines(&mut report)?;
     Ok(report)
 }
 
 /// The lines of a perf.data file over the modules of a space.
-fn lines_over(
+fn lines_over<I: Source>(
     alloc: Global,
     form: Form,
     space: &Space<'_>,
     origins: &Origins,
     limit: u32,
-    file: &PerfFile<'_>,
-) -> Result<Report, ProfileError>
-    ensures { Gives result
-        (told_by (tables space.now origins.now limit) form file.now.records) }
+    file: OpenFile,
+    input: &mut I,
+) -> Result<Report, StreamError>
+    ensures due { IfSome (streams.due_of file (I.left input.old)) (λ due.
+        GivesStreamed result (told_due (tables space.now origins.now limit) form due)) }
+    ensures on { GoesOn (I.left input.old) (I.left input.new) (I.faults input.old)
+        (I.faults input.new) }
+    ensures fault { IsErrOf result StreamError.Fault →
+        Rose (I.faults input.old) (I.faults input.new) }
 {
     match form {
-        Form::Folded => folded_lines(alloc, space, origins, limit, file),
-        Form::Script => script_of(alloc, space, origins, limit, file),
+        Form::Folded => folded_lines(alloc, space, origins, limit, file, input),
+        Form::Script => script_of_source(alloc, space, origins, limit, file, input),
     }
 }
 
 /// The lines of a perf.data file over the modules of a snapshot.
-fn lines_of(
+fn lines_of<I: Source>(
     alloc: Global,
     form: Form,
     snapshot: &Snapshot,
     origins: &Origins,
-    file: &PerfFile<'_>,
-) -> Result<Report, ProfileError>
-    ensures { Gives result
-        (told_by (tables_of snapshot.now origins.now) form file.now.records) }
+    file: OpenFile,
+    input: &mut I,
+) -> Result<Report, StreamError>
+    ensures due { IfSome (streams.due_of file (I.left input.old)) (λ due.
+        GivesStreamed result (told_due (tables_of snapshot.now origins.now) form due)) }
+    ensures on { GoesOn (I.left input.old) (I.left input.new) (I.faults input.old)
+        (I.faults input.new) }
+    ensures fault { IsErrOf result StreamError.Fault →
+        Rose (I.faults input.old) (I.faults input.new) }
 {
     let space = prepared_space(alloc, snapshot)?;
-    lines_over(alloc, form, &space, origins, snapshot.limit(), file)
+    lines_over(alloc, form, &space, origins, snapshot.limit(), file, input)
 }
 
-/// The answer to a perf.data file, or to other bytes.
-fn perf_answer(
-    alloc: Global,
-    form: Form,
-    snapshot: &Snapshot,
-    origins: &Origins,
-    bytes: &[u8],
-) -> Answer
-    ensures answer { AnswersBytes
-        (file_due (tables_of snapshot.now origins.now) form (perf_of bytes.now))
-        result.status result.text }
-    ensures kind { result.status ≢ Status.TooLong }
+/// The answer where a perf.data file isn't read.
+fn failed_answer(alloc: Global, error: StreamError) -> Answer
+    ensures failure { IsFailure error result.status result.text }
+    ensures kind { IsOfSource result.status }
+    ensures silent { (result.status ≡ Status.Memory) ⊎ (result.status ≡ Status.ReadFault) →
+        result.text ≡ [] }
+    ensures fault { result.status ≡ Status.ReadFault → error ≡ StreamError.Fault }
 {
-    let file = match PerfFile::parse(bytes) {
-        Ok(file) => file,
-        Err(error) => return text_answer(alloc, Status::Refused, refused_line(alloc, error)),
-    };
-    match lines_of(alloc, form, snapshot, origins, &file) {
-        Ok(lines) => text_answer(alloc, Status::Done, Ok(lines)),
-        Err(ProfileError::NoMemory) => silent_answer(alloc, Status::Memory),
-        Err(ProfileError::Unread(error)) => {
+    match error {
+        StreamError::NoMemory => silent_answer(alloc, Status::Memory),
+        StreamError::Fault => silent_answer(alloc, Status::ReadFault),
+        StreamError::Unread(error) => {
             text_answer(alloc, Status::Refused, refused_line(alloc, error))
         }
     }
 }
 
-/// The answer to all bytes of the source, by the bytes of the tables' file.
-fn bytes_answer(alloc: Global, form: Form, tables: &[u8], bytes: &[u8]) -> Answer
-    ensures answer { AnswersBytes (content_due (origins_by (value_of tables.now)) form bytes.now
-        (content_of tables.now)) result.status result.text }
-    ensures kind { result.status ≢ Status.TooLong }
+/// The answer to a perf.data file.
+fn perf_answer<I: Source>(
+    alloc: Global,
+    form: Form,
+    snapshot: &Snapshot,
+    origins: &Origins,
+    file: OpenFile,
+    input: &mut I,
+) -> Answer
+    ensures answer { IfSome (streams.due_of file (I.left input.old)) (λ due. IsReadyOrFailed (lines_due
+        (told_due (tables_of snapshot.now origins.now) form due)) result.status result.text) }
+    ensures kind { IsOfSource result.status }
+    ensures silent { (result.status ≡ Status.Memory) ⊎ (result.status ≡ Status.ReadFault) →
+        result.text ≡ [] }
+    ensures on { GoesOn (I.left input.old) (I.left input.new) (I.faults input.old)
+        (I.faults input.new) }
+    ensures fault { result.status ≡ Status.ReadFault →
+        Rose (I.faults input.old) (I.faults input.new) }
+{
+    match lines_of(alloc, form, snapshot, origins, file, input) {
+        Ok(lines) => text_answer(alloc, Status::Done, Ok(lines)),
+        Err(error) => failed_answer(alloc, error),
+    }
+}
+
+/// The answer to a perf.data file, by the bytes of the tables' file.
+fn file_answer<I: Source>(
+    alloc: Global,
+    form: Form,
+    tables: &[u8],
+    file: OpenFile,
+    input: &mut I,
+) -> Answer
+    ensures answer { IfSome (streams.due_of file (I.left input.old)) (λ due. IsReadyOrFailed
+        (read_due (origins_by (value_of tables.now)) form due (content_of tables.now))
+        result.status result.text) }
+    ensures kind { IsOfSource result.status }
+    ensures silent { (result.status ≡ Status.Memory) ⊎ (result.status ≡ Status.ReadFault) →
+        result.text ≡ [] }
+    ensures on { GoesOn (I.left input.old) (I.left input.new) (I.faults input.old)
+        (I.faults input.new) }
+    ensures fault { result.status ≡ Status.ReadFault →
+        Rose (I.faults input.old) (I.faults input.new) }
 {
     match read_named_snapshot(alloc, tables) {
-        Ok((snapshot, origins)) => perf_answer(alloc, form, &snapshot, &origins, bytes),
+        Ok((snapshot, origins)) => perf_answer(alloc, form, &snapshot, &origins, file, input),
         Err(error) => fault_answer(alloc, error),
     }
 }
 
+/// The answer to the bytes of the source, as far as they were read.
+fn source_answer<I: Source>(alloc: Global, form: Form, tables: &[u8], input: &mut I) -> Answer
+    ensures answer { IfSome (I.left input.old) (λ bytes.
+        IsReadyOrFailed (bytes_due tables.now form bytes) result.status result.text) }
+    ensures kind { IsOfSource result.status }
+    ensures silent { (result.status ≡ Status.Memory) ⊎ (result.status ≡ Status.ReadFault) →
+        result.text ≡ [] }
+    ensures on { GoesOn (I.left input.old) (I.left input.new) (I.faults input.old)
+        (I.faults input.new) }
+    ensures fault { result.status ≡ Status.ReadFault →
+        Rose (I.faults input.old) (I.faults input.new) }
+{
+    match open_file(alloc, input) {
+        Ok(file) => file_answer(alloc, form, tables, file, input),
+        Err(error) => failed_answer(alloc, error),
+    }
+}
+
+/// The answer to all bytes of the source. A fault after those that tell it is answered in its place.
 fn input_answer<I: Source>(alloc: Global, form: Form, tables: &[u8], input: &mut I) -> Answer
     ensures answer { IfSome (I.left input.old) (λ bytes.
         IsReadyOrFailed (bytes_due tables.now form bytes) result.status result.text) }
-    ensures kind { (result.status ≢ Status.Usage) × (result.status ≢ Status.WriteFault) }
+    ensures kind { IsOfSource result.status }
     ensures leaves { LeavesSource ⊤ result.status result.text
         (Rose (I.faults input.old) (I.faults input.new)) (I.left input.old) (I.left input.new) }
 {
-    match read_input(alloc, input) {
-        Ok(bytes) => bytes_answer(alloc, form, tables, &bytes),
-        Err(answer) => answer,
+    let answer = source_answer(alloc, form, tables, input);
+    match pass_source(alloc, input) {
+        Ok(()) => answer,
+        Err(error) => failed_answer(alloc, error),
     }
 }
 
@@ -173,8 +235,8 @@ fn decide<I: Source>(alloc: Global, words: &Words, tables: &[u8], input: &mut I)
 /// Writes the folded stacks of the perf.data file that the input is to the output, or its samples one
 /// after another, or why there are none. `tables` are the bytes of the file that the words name.
 ///
-/// The input is read to its end, but for at most one byte after the 67,108,864th, and not at all
-/// where the words name no file. The checks go in this order: words, reading, JSON, snapshot,
+/// The input is read to its end, and not at all where the words name no file. A perf.data file whose
+/// attributes stand before its records is held a record and two pieces at a time; another is held whole. The checks go in this order: words, reading, JSON, snapshot,
 /// perf.data, writing. Running out of memory at any of them is `Memory`.
 pub fn run<I: Source, O: Sink>(
     alloc: Global,

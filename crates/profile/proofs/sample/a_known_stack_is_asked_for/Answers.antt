@@ -1,4 +1,4 @@
-use Rattle.std.proofs.Common.{[], refl, lit≤}
+use Rattle.std.proofs.Common.{[], refl}
 use Rattle.std.specs.Char.{encode_utf8}
 use Rattle.std.specs.Fmt.{digits}
 use Rattle.std.specs.Str.{is_utf8, chars}
@@ -21,7 +21,6 @@ unfolding is_utf8 chars encode_utf8 decode_pairs serde_json_on_literals value_of
 returns-clause-asked c = record {
   path = codes "tables.json";
   named = refl;
-  short = lit≤ tt;
   content = content;
   reads = refl;
   walked = refl;
@@ -35,7 +34,6 @@ unfolding is_utf8 chars encode_utf8 decode_pairs serde_json_on_literals value_of
 returns-clause-script c = record {
   path = codes "tables.json";
   named = refl;
-  short = lit≤ tt;
   content = content;
   reads = refl;
   walked = refl;

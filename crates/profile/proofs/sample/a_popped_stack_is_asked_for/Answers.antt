@@ -1,4 +1,4 @@
-use Rattle.std.proofs.Common.{[], ◌∷◌, ap, refl, lit≤}
+use Rattle.std.proofs.Common.{[], ◌∷◌, ap, refl}
 use Rattle.std.specs.Char.{encode_utf8}
 use Rattle.std.specs.Fmt.{digits}
 use Rattle.std.specs.Str.{is_utf8, chars}
@@ -24,7 +24,6 @@ unfolding is_utf8 chars encode_utf8 decode_pairs serde_json_on_literals value_of
 returns-clause-asked c = record {
   path = codes "tables.json";
   named = refl;
-  short = lit≤ tt;
   content = content;
   reads = refl;
   walked = refl;
@@ -38,7 +37,6 @@ unfolding is_utf8 chars encode_utf8 decode_pairs serde_json_on_literals value_of
 returns-clause-asked_script c = record {
   path = codes "tables.json";
   named = refl;
-  short = lit≤ tt;
   content = content;
   reads = refl;
   walked = refl;

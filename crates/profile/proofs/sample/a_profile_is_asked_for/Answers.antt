@@ -1,4 +1,4 @@
-use Rattle.std.proofs.Common.{refl, lit≤}
+use Rattle.std.proofs.Common.{refl}
 use Rattle.std.specs.Char.{encode_utf8}
 use Rattle.std.specs.Str.{is_utf8, chars}
 use Rattle.std.specs.Prelude.{codes}
@@ -18,7 +18,6 @@ unfolding is_utf8 chars encode_utf8 decode_pairs serde_json_on_literals value_of
 returns-clause-asked c = record {
   path = codes "tables.json";
   named = refl;
-  short = lit≤ tt;
   content = content;
   reads = refl;
   walked = refl;
