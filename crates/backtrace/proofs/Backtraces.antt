@@ -1,5 +1,5 @@
 -- A snapshot has one backtrace, and what is due is by it.
-use Rattle.std.proofs.Common.{inl, inr, ◌≡◌, ℕ, ◌+◌, ◌-◌, ◌^◌, ◌++◌, Bool, true, false, List, [], ◌∷◌, length, Option, Some, None, Result, Ok, Err, refl, sym, ap, ◌∙◌, ltb}
+use Rattle.std.proofs.Common.{inl, inr, ◌≡◌, ℕ, ◌+◌, ◌^◌, ◌++◌, Bool, true, false, List, [], ◌∷◌, length, Option, Some, None, Result, Ok, Err, refl, sym, ap, ◌∙◌, ltb}
 use Rattle.std.specs.Prelude.{IfSome, codes, if◌then◌else◌}
 use Rattle.std.proofs.lemmas.Bool.{le-ltb}
 use Rattle.command_ends.specs.declared.status.Status.{Status}
@@ -7,7 +7,6 @@ use Rattle.command_ends.specs.declared.status.Status.TheVariants.{Done, TooLong}
 use Rattle.command_ends.specs.Verdicts.{verdict, IsReadyOrFailed}
 use Rattle.stack_steps.specs.Modules.{SpaceValue}
 use Rattle.stack_snapshot.specs.declared.errors.SnapshotError.{SnapshotError}
-use Rattle.stack_snapshot.specs.declared.errors.SnapshotError.TheVariants as faults
 use Rattle.stack_snapshot.specs.Answers.{content_of, value_of}
 use Rattle.stack_snapshot.specs.Content.{Content, space_of}
 use Rattle.backtrace.specs.Code.{PlacesValue, places_by}

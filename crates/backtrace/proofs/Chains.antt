@@ -1,7 +1,7 @@
 -- The trace of a snapshot whose tables describe a chain of calls.
-use Rattle.std.proofs.Common.{inl, inr, ◌≡◌, ◌≢◌, ℕ, ◌+◌, ◌-◌, ◌%◌, ◌^◌, ◌<◌, ◌≤◌, Bool, true, false, ◌||◌, ◌&&◌, List, [], ◌∷◌, length, set, get_or, Option, Some, None, Result, Ok, refl, sym, ap, ◌∙◌, eqb, arith}
+use Rattle.std.proofs.Common.{inl, inr, ◌≡◌, ◌≢◌, ℕ, ◌+◌, ◌-◌, ◌%◌, ◌^◌, ◌<◌, ◌≤◌, Bool, true, false, ◌||◌, ◌&&◌, List, [], ◌∷◌, length, set, get_or, Option, Some, None, Result, Ok, refl, sym, ap, ◌∙◌, arith}
 use Rattle.std.proofs.lemmas.Bool.Decides.{nat_tests}
-use Rattle.std.specs.Prelude.{map, ◌==◌, is_none, if◌then◌else◌}
+use Rattle.std.specs.Prelude.{map, ◌==◌}
 use Rattle.std.proofs.lemmas.List.{get_or-set_same, get_or-set_other}
 use Rattle.memory_image.specs.Image.{Span, IsLaidOut, word_at}
 use Rattle.unwind_definitions.specs.Columns as column
@@ -15,14 +15,12 @@ use Rattle.unwind_arch.specs.declared.x86_64.Context.{Context}
 use Rattle.unwind_arch.specs.ContextViews.{columns_of}
 use Rattle.format_frames.specs.declared.machine.Stepped.{Stepped}
 use Rattle.stack_steps.specs.declared.error.DeliverError.{DeliverError}
-use Rattle.stack_steps.specs.declared.space.Module.{Module}
-use Rattle.stack_steps.specs.Modules.{SpaceValue, AreApart, module_at}
+use Rattle.stack_steps.specs.Modules.{SpaceValue, AreApart}
 use Rattle.stack_steps.specs.SpaceViews.{formats_of}
-use Rattle.stack_steps.specs.Stepping.{step_of, EndsAt}
+use Rattle.stack_steps.specs.Stepping.{step_of}
 use Rattle.stack_steps.specs.Undoing.{UndoneIn}
 use Rattle.stack_steps.proofs.ContextLemmas.{IsWhole}
 use Rattle.stack_steps.proofs.MetCalls.{format_stopped}
-use Rattle.stack_steps.proofs.StepAnswers.{ends_step}
 use Rattle.stack_walks.specs.WalkEnds.{start_state, contexts_to_end, end_reason_of_chain}
 use Rattle.stack_walks.specs.Walking.{StartsChain}
 use Rattle.stack_walks.proofs.ChainEnds.{chain_comes, stop_comes}
@@ -33,31 +31,18 @@ use Rattle.stack_deliver.specs.StateViews.{state_of}
 use Rattle.stack_deliver.proofs.Chains.{shown_state, shown_states}
 use Rattle.stack_snapshot.specs.Content.{Content, space_of}
 use Rattle.stack_snapshot.specs.Described.{DescribesStop, DescribesWalk}
-use Rattle.backtrace.specs.Code.{CodeValue, PlacesValue, code_at}
+use Rattle.backtrace.specs.Code.{CodeValue, PlacesValue}
 use Rattle.backtrace.specs.declared.options.Options.{Options}
-use Rattle.backtrace.specs.Tracing.{TraceValue, IsNowhere, called_from, is_nowhere, returned_caller, returned_to}
+use Rattle.backtrace.specs.Tracing.{TraceValue, IsFrontOf, IsNowhere, called_from, is_nowhere, keeps_popped, returned_to}
 use Rattle.backtrace.specs.Lines.{backtrace_text}
 use Rattle.backtrace.specs.Due.{IsTraceOf, DescribesCallToNowhere, text_of, chain_text, called_text}
+use Rattle.backtrace.proofs.Somewhere.{unended_somewhere}
+use Rattle.backtrace.proofs.PoppedTraces.{plain_front, whole_unmarked}
 
 -- A stack that has a step isn't guessed at.
 stepped_somewhere : (space : SpaceValue) (code : List CodeValue) (c : Context) (next : Stepped) → step_of space c true ≡ Ok (Some next) → called_from space code c true ≡ None
-stepped_somewhere space code c next steps = go (eqb c.ra 0) refl (module_at space.modules c.ra) refl
-  where
-    ended : EndsAt space c true → ⊥
-    ended ends = let bad : ◌≡◌ {A = Result (Option Stepped) DeliverError} (Ok (Some next)) (Ok None) = sym steps ∙ ends_step space c true ends in cc
-
-    go : (b : Bool) → eqb c.ra 0 ≡ b → (o : Option Module) → module_at space.modules c.ra ≡ o → called_from space code c true ≡ None
-    go true zero o holder = let is : c.ra ≡ 0 = grind (arith, nat_tests) in absurd (ended (inl is))
-    go false some None holder = let is : c.ra ≢ 0 = grind (arith, nat_tests) in absurd (ended (inr (is, rw holder tt)))
-    go false some (Some m) holder = rw (some, holder) refl
-
--- Nor is one whose start lies in code without a table.
-pub code_is_somewhere : (space : SpaceValue) (code : List CodeValue) (c : Context) (interrupted : Bool) (range : CodeValue) → code_at code c.ra ≡ Some range → called_from space code c interrupted ≡ None
-code_is_somewhere space code c interrupted range holds = rw holds (go (interrupted && ((c.ra == 0) || is_none (module_at space.modules c.ra))))
-  where
-    go : (b : Bool) → (if b && false then returned_caller space.image c else None) ≡ None
-    go true = refl
-    go false = refl
+stepped_somewhere space code c next steps =
+    unended_somewhere space code c (λ ends. let bad : ◌≡◌ {A = Result (Option Stepped) DeliverError} (Ok (Some next)) (Ok None) = sym steps ∙ ends in cc)
 
 -- ---- a call to nowhere
 
@@ -128,7 +113,7 @@ module _ (s : Content) (apart : AreApart 0 (space_of s).modules) (laid : IsLaidO
   -- of a walk that begins at the start
   abbrev walked : Bool → State → List Call → TraceValue
   walked interrupted start calls =
-      record { first = None; states = contexts_to_end (space_of s) s.limit s.start interrupted; why = end_reason_of_chain (space_of s).modules (last_state start calls) }
+      record { first = None; states = contexts_to_end (space_of s) s.limit s.start interrupted; why = end_reason_of_chain (space_of s).modules (last_state start calls); popped = false }
 
   lines_are : (o : Options) (places : PlacesValue) (start : State) (calls : List Call) → map state_of (contexts_to_end (space_of s) s.limit s.start s.interrupted) ≡ states_of start calls →
       text_of o s places (walked s.interrupted start calls) ≡ chain_text o s places start calls
@@ -144,7 +129,7 @@ module _ (s : Content) (apart : AreApart 0 (space_of s).modules) (laid : IsLaidO
       let shown : map state_of (contexts_to_end (space_of s) s.limit s.start s.interrupted) ≡ states_of start calls = rw (is.0, all) (shown_states w.0 (states_of start calls) w.2.states) in
       let why = chain_comes (space_of s) apart laid s.start s.limit functions start calls is.1 in (
         walked s.interrupted start calls,
-        rw is.0 (refl, record { states = refl; why = why }),
+        rw is.0 (refl, record { states = refl; why = why; marked = refl }),
         lines_are o places start calls shown,
       )
 
@@ -158,9 +143,11 @@ module _ (s : Content) (apart : AreApart 0 (space_of s).modules) (laid : IsLaidO
       let stop : IsDescribedStop (space_of s).image (formats_of (space_of s)) functions start call = is.1.stopped in
       let step : UndoneIn stop.lies.home (step_of (space_of s) s.start true) (columns_of s.start) call.caller = format_stopped (space_of s) s.start functions start call apart laid stop is.1.shows in
       let none : called_from (space_of s) places.code s.start true ≡ None = stepped_somewhere (space_of s) places.code s.start step.next step.answered in
-      let why = stop_comes (space_of s) apart laid s.start s.limit functions start call calls is.1 in (
+      let why = stop_comes (space_of s) apart laid s.start s.limit functions start call calls is.1 in
+      let unmarked : keeps_popped (space_of s) s.limit s.start true ≡ false = whole_unmarked (space_of s) s.limit s.start true w.0 w.1 in
+      let front : IsFrontOf (space_of s) s.limit s.start true false (walked true start (call ∷ calls)) = record { states = refl; why = why; marked = refl } in (
         walked s.interrupted start (call ∷ calls),
-        rw (is.0, none) (refl, record { states = refl; why = why }),
+        rw (is.0, none) (refl, plain_front (space_of s) s.limit s.start true (walked true start (call ∷ calls)) unmarked front),
         lines_are o places start (call ∷ calls) shown,
       )
 
@@ -178,7 +165,7 @@ module _ (s : Content) (apart : AreApart 0 (space_of s).modules) (laid : IsLaidO
       let shown : map state_of (contexts_to_end (space_of s) (s.limit - 1) d.0 false) ≡ states_of caller calls = rw all (shown_states w.0 (states_of caller calls) w.2.states) in
       let first : state_of s.start ≡ start = shown_state s.start start is.shows in
       let why = chain_comes (space_of s) apart laid d.0 (s.limit - 1) functions caller calls starts in (
-        record { first = Some s.start; states = contexts_to_end (space_of s) (s.limit - 1) d.0 false; why = end_reason_of_chain (space_of s).modules (last_state caller calls) },
-        rw d.1 (refl, record { states = refl; why = why }),
+        record { first = Some s.start; states = contexts_to_end (space_of s) (s.limit - 1) d.0 false; why = end_reason_of_chain (space_of s).modules (last_state caller calls); popped = false },
+        rw d.1 (refl, record { states = refl; why = why; marked = refl }),
         rw (first, shown) refl,
       )

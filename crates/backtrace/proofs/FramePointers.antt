@@ -1,11 +1,10 @@
 -- A frame pointer leads to the caller of a function that has pushed RBP and made it its frame pointer.
-use Rattle.std.proofs.Common.{◌≡◌, ◌≢◌, ℕ, ◌+◌, ◌-◌, ◌%◌, ◌^◌, ◌<◌, ◌≤◌, Bool, true, false, List, length, set, get_or, Option, Some, None, refl, sym, ap, subst, ◌∙◌, leb, ltb, eqb, arith}
+use Rattle.std.proofs.Common.{◌≡◌, ◌≢◌, ℕ, ◌+◌, ◌-◌, ◌%◌, ◌^◌, ◌<◌, ◌≤◌, true, false, List, length, set, get_or, Option, Some, None, refl, sym, ap, subst, ◌∙◌, leb, ltb, eqb, arith}
 use Rattle.std.proofs.lemmas.Bool.Decides.{nat_tests}
 use Rattle.std.proofs.lemmas.List.{get_or-set_same, get_or-set_other}
 use Rattle.std.proofs.Math.ListN.{length-set}
-use Rattle.std.specs.Prelude.{IsSomeAnd, IsTrue, IsFalse, option_and_then, option_map}
+use Rattle.std.specs.Prelude.{IsSomeAnd, IsTrue, option_and_then, option_map}
 use Rattle.memory_image.specs.Image.{Span, word_at}
-use Rattle.unwind_definitions.specs.Columns as column
 use Rattle.unwind_definitions.specs.State.{CalleeSaved, RBX, RBP, R12, R13, R14, R15, State, IsState, Shows, KeepsOthers, column_of, value_of, is_followed}
 use Rattle.unwind_definitions.specs.Entered.{IsEntered}
 use Rattle.unwind_arch.specs.declared.x86_64.Context.{Context}

@@ -1,6 +1,6 @@
 -- The walks that go on from a trace by frame pointers: each takes a place of the limit, or is the last; and they are one list.
-use Rattle.std.proofs.Common.{◌≡◌, ℕ, zero, suc, ◌+◌, ◌-◌, ◌<◌, ◌≤◌, ◌++◌, Bool, true, false, ◌&&◌, List, [], ◌∷◌, length, Option, Some, None, refl, sym, ap, subst, ◌∙◌, append_assoc, arith}
-use Rattle.std.specs.Prelude.{if◌then◌else◌, option_and_then}
+use Rattle.std.proofs.Common.{◌≡◌, ℕ, zero, suc, ◌+◌, ◌-◌, ◌<◌, ◌≤◌, ◌++◌, Bool, true, false, List, [], ◌∷◌, length, Option, Some, None, refl, sym, subst, ◌∙◌, append_assoc, arith}
+use Rattle.std.specs.Prelude.{if◌then◌else◌}
 use Rattle.unwind_arch.specs.declared.x86_64.Context.{Context}
 use Rattle.format_frames.specs.declared.machine.Stepped.{Stepped}
 use Rattle.stack_steps.specs.Modules.{SpaceValue}
@@ -11,7 +11,7 @@ use Rattle.stack_walks.proofs.EndAnswers.{one_front}
 use Rattle.stack_walks.proofs.EndThere.{end_there}
 use Rattle.backtrace.specs.Code.{CodeValue}
 use Rattle.backtrace.specs.Tracing.{TraceValue}
-use Rattle.backtrace.specs.FramePointers.{is_without_table, caller_by_pointer, last_of, guess_after, IsWalkFrom, AreGuesses}
+use Rattle.backtrace.specs.FramePointers.{is_without_table, guess_after, IsWalkFrom, AreGuesses}
 use Rattle.backtrace.specs.Lines.{FormValue, frame_lines, pointed_form, pointed_text, shown_states}
 
 -- ---- how many states a walk has
@@ -63,12 +63,12 @@ fewer_left limit n more left short some = go (limit - n) refl
 
 -- ---- one list of them
 
-pub same_parts : (t u : TraceValue) → t.first ≡ u.first → t.states ≡ u.states → t.why ≡ u.why → t ≡ u
-same_parts t u a b c = λ i. record { first = a i; states = b i; why = c i }
+pub same_parts : (t u : TraceValue) → t.first ≡ u.first → t.states ≡ u.states → t.why ≡ u.why → t.popped ≡ u.popped → t ≡ u
+same_parts t u a b c d = λ i. record { first = a i; states = b i; why = c i; popped = d i }
 
 one_walk : (space : SpaceValue) (limit : ℕ) (c : Context) (t u : TraceValue) → IsWalkFrom space limit c t → IsWalkFrom space limit c u → t ≡ u
 one_walk space limit c t u is other =
-    same_parts t u (is.0 ∙ sym other.0) (is.1.states ∙ sym other.1.states) (one_front space limit (start_state c false) t.why u.why is.1.why other.1.why)
+    same_parts t u (is.0 ∙ sym other.0) (is.1.states ∙ sym other.1.states) (one_front space limit (start_state c false) t.why u.why is.1.why other.1.why) (is.1.marked ∙ sym other.1.marked)
 
 module _ (pointers : Bool) (space : SpaceValue) (code : List CodeValue) (limit : ℕ) where
   pub one_guesses : (n : ℕ) (t : TraceValue) (ts us : List TraceValue) → AreGuesses pointers space code limit n t ts → AreGuesses pointers space code limit n t us → ts ≡ us
@@ -94,8 +94,8 @@ module _ (pointers : Bool) (space : SpaceValue) (code : List CodeValue) (limit :
       go None none = ([], none)
       go (Some c) some =
           let front = end_there space (limit - n) c false in
-          let u : TraceValue = record { first = None; states = contexts_to_end space (limit - n) c false; why = front.0 } in
-          let walk : IsWalkFrom space (limit - n) c u = (refl, record { states = refl; why = front.1 }) in
+          let u : TraceValue = record { first = None; states = contexts_to_end space (limit - n) c false; why = front.0; popped = false } in
+          let walk : IsWalkFrom space (limit - n) c u = (refl, record { states = refl; why = front.1; marked = refl }) in
           let last : u.why ≡ Limit = walk_of_none space (limit - n) c u walk (omega arith) in
           (u ∷ [], (c, some, walk, none_at_limit u last))
   guesses_there (suc left) n t short = go (λ k u fewer. guesses_there left k u fewer) (guess_after pointers space code t) refl
@@ -105,8 +105,8 @@ module _ (pointers : Bool) (space : SpaceValue) (code : List CodeValue) (limit :
       go later None none = ([], none)
       go later (Some c) some =
           let front = end_there space (limit - n) c false in
-          let u : TraceValue = record { first = None; states = contexts_to_end space (limit - n) c false; why = front.0 } in
-          let walk : IsWalkFrom space (limit - n) c u = (refl, record { states = refl; why = front.1 }) in
+          let u : TraceValue = record { first = None; states = contexts_to_end space (limit - n) c false; why = front.0; popped = false } in
+          let walk : IsWalkFrom space (limit - n) c u = (refl, record { states = refl; why = front.1; marked = refl }) in
           let place : 0 < limit - n → 0 < length u.states = walk_some space (limit - n) c u walk in
           let fewer : limit - (n + length u.states) ≤ left = fewer_left limit n (length u.states) left short place in
           let rest = later (n + length u.states) u fewer in

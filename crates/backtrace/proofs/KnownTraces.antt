@@ -16,11 +16,12 @@ use Rattle.stack_deliver.proofs.Chains.{shown_state, shown_states}
 use Rattle.stack_snapshot.specs.Content.{Content, space_of}
 use Rattle.backtrace.specs.Code.{PlacesValue}
 use Rattle.backtrace.specs.declared.options.Options.{Options}
-use Rattle.backtrace.specs.Tracing.{TraceValue, called_from, is_nowhere}
+use Rattle.backtrace.specs.Tracing.{TraceValue, IsFrontOf, called_from, is_nowhere, keeps_popped}
 use Rattle.backtrace.specs.Lines.{backtrace_text}
 use Rattle.backtrace.specs.Due.{IsTraceOf, text_of}
 use Rattle.backtrace.specs.KnownStacks.{BeginsKnownStack, BeginsByCallToNowhere, stack_text, called_stack_text}
 use Rattle.backtrace.proofs.Chains.{called_caller}
+use Rattle.backtrace.proofs.PoppedTraces.{plain_front, whole_unmarked}
 
 -- where the outermost state returns to
 abbrev pub last_returns : State → List State → ℕ
@@ -31,7 +32,7 @@ module _ (s : Content) (apart : AreApart 0 (space_of s).modules) (laid : IsLaidO
   -- of a walk that begins at the start
   abbrev walked : (places : PlacesValue) (start : State) (callers : List State) → BeginsKnownStack s places start callers → TraceValue
   walked places start callers is =
-      record { first = None; states = contexts_to_end (space_of s) s.limit s.start s.interrupted; why = end_reason_of_stack (space_of s) s.interrupted start callers is.starts.stack }
+      record { first = None; states = contexts_to_end (space_of s) s.limit s.start s.interrupted; why = end_reason_of_stack (space_of s) s.interrupted start callers is.starts.stack; popped = false }
 
   lines_are : (o : Options) (places : PlacesValue) (start : State) (callers : List State) (is : BeginsKnownStack s places start callers) →
       map state_of (contexts_to_end (space_of s) s.limit s.start s.interrupted) ≡ start ∷ callers → text_of o s places (walked places start callers is) ≡ stack_text o s places start callers is
@@ -47,9 +48,11 @@ module _ (s : Content) (apart : AreApart 0 (space_of s).modules) (laid : IsLaidO
       let shown : map state_of (contexts_to_end (space_of s) s.limit s.start s.interrupted) ≡ start ∷ callers = rw all (shown_states w.0 (start ∷ callers) w.2.each) in
       let why = known_comes (space_of s) apart laid s.start s.limit s.interrupted start callers is.starts in
       let somewhere : is_nowhere (space_of s) places.code s.start s.interrupted ≡ false = is.somewhere in
-      let none : called_from (space_of s) places.code s.start s.interrupted ≡ None = rw somewhere refl in (
+      let none : called_from (space_of s) places.code s.start s.interrupted ≡ None = rw somewhere refl in
+      let unmarked : keeps_popped (space_of s) s.limit s.start s.interrupted ≡ false = whole_unmarked (space_of s) s.limit s.start s.interrupted w.0 w.1 in
+      let front : IsFrontOf (space_of s) s.limit s.start s.interrupted false (walked places start callers is) = record { states = refl; why = why; marked = refl } in (
         walked places start callers is,
-        rw none (refl, record { states = refl; why = why }),
+        rw none (refl, plain_front (space_of s) s.limit s.start s.interrupted (walked places start callers is) unmarked front),
         lines_are o places start callers is shown,
       )
 
@@ -67,8 +70,8 @@ module _ (s : Content) (apart : AreApart 0 (space_of s).modules) (laid : IsLaidO
       let shown : map state_of (contexts_to_end (space_of s) (s.limit - 1) d.0 false) ≡ caller ∷ callers = rw all (shown_states w.0 (caller ∷ callers) w.2.each) in
       let first : state_of s.start ≡ start = shown_state s.start start is.shows in
       let why = known_comes (space_of s) apart laid d.0 (s.limit - 1) false caller callers starts in (
-        record { first = Some s.start; states = contexts_to_end (space_of s) (s.limit - 1) d.0 false; why = end_reason_of_stack (space_of s) false caller callers is.stack },
-        rw d.1 (refl, record { states = refl; why = why }),
+        record { first = Some s.start; states = contexts_to_end (space_of s) (s.limit - 1) d.0 false; why = end_reason_of_stack (space_of s) false caller callers is.stack; popped = false },
+        rw d.1 (refl, record { states = refl; why = why; marked = refl }),
         rw (first, shown) refl,
       )
 

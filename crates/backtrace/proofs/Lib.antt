@@ -1,4 +1,6 @@
 pub mod FramePointers
+pub mod Somewhere
+pub mod PoppedTraces
 pub mod Guesses
 pub mod StackTexts
 pub mod Backtraces
@@ -11,3 +13,4 @@ pub mod KnownTraces
 pub mod ThreadLines
 pub mod Faults
 pub mod PointedChain
+pub mod PoppedChain

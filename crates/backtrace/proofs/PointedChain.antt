@@ -1,5 +1,5 @@
 -- The sample of a frame pointer: it leads to the second state of a described chain.
-use Rattle.std.proofs.Common.{◌≡◌, ℕ, false, [], ◌∷◌, List, Some, None, refl, arith, lit<}
+use Rattle.std.proofs.Common.{◌≡◌, false, [], ◌∷◌, List, Some, None, refl, arith, lit<}
 use Rattle.memory_image.specs.Image.{word_at}
 use Rattle.unwind_definitions.specs.State.{CalleeSaved, RBX, RBP, R12, R13, R14, R15, IsState, Shows, column_of, value_of}
 use Rattle.unwind_definitions.specs.Chain.{Call}

@@ -8,7 +8,7 @@ use Rattle.stack_walks.proofs.EndAnswers.{one_front}
 use Rattle.stack_walks.proofs.EndThere.{end_there}
 use Rattle.backtrace.specs.Code.{CodeValue, PlacesValue}
 use Rattle.backtrace.specs.declared.options.Options.{Options}
-use Rattle.backtrace.specs.Tracing.{TraceValue, IsTrace, IsTraceFrom, called_from}
+use Rattle.backtrace.specs.Tracing.{TraceValue, IsTrace, IsTraceFrom, called_from, keeps_popped, start_space}
 use Rattle.backtrace.specs.FramePointers.{is_without_table, caller_by_pointer, last_of, guess_after, AreGuesses}
 use Rattle.backtrace.specs.Lines.{backtrace_text, contexts_of, states_text, traces_text}
 use Rattle.backtrace.specs.Stacks.{IsStackText}
@@ -18,9 +18,9 @@ use Rattle.backtrace.proofs.Guesses.{same_parts, one_guesses, guesses_there}
 
 one_from : (o : Option Context) (space : SpaceValue) (c : Context) (interrupted : Bool) (limit : ℕ) (t u : TraceValue) → IsTraceFrom o space c interrupted limit t → IsTraceFrom o space c interrupted limit u → t ≡ u
 one_from None space c interrupted limit t u is other =
-    same_parts t u (is.0 ∙ sym other.0) (is.1.states ∙ sym other.1.states) (one_front space limit (start_state c interrupted) t.why u.why is.1.why other.1.why)
+    same_parts t u (is.0 ∙ sym other.0) (is.1.states ∙ sym other.1.states) (one_front (start_space space limit c interrupted) limit (start_state c interrupted) t.why u.why is.1.why other.1.why) (is.1.marked ∙ sym other.1.marked)
 one_from (Some d) space c interrupted limit t u is other =
-    same_parts t u (is.0 ∙ sym other.0) (is.1.states ∙ sym other.1.states) (one_front space (limit - 1) (start_state d false) t.why u.why is.1.why other.1.why)
+    same_parts t u (is.0 ∙ sym other.0) (is.1.states ∙ sym other.1.states) (one_front space (limit - 1) (start_state d false) t.why u.why is.1.why other.1.why) (is.1.marked ∙ sym other.1.marked)
 
 pub one_traced : (space : SpaceValue) (code : List CodeValue) (c : Context) (interrupted : Bool) (limit : ℕ) (t u : TraceValue) → IsTrace space code c interrupted limit t → IsTrace space code c interrupted limit u → t ≡ u
 one_traced space code c interrupted limit t u is other = one_from (called_from space code c interrupted) space c interrupted limit t u is other
@@ -28,11 +28,12 @@ one_traced space code c interrupted limit t u is other = one_from (called_from s
 -- and it is there
 from_there : (o : Option Context) (space : SpaceValue) (c : Context) (interrupted : Bool) (limit : ℕ) → (t : TraceValue) × IsTraceFrom o space c interrupted limit t
 from_there None space c interrupted limit =
-    let front = end_there space limit c interrupted in
-    (record { first = None; states = contexts_to_end space limit c interrupted; why = front.0 }, (refl, record { states = refl; why = front.1 }))
+    let memory = start_space space limit c interrupted in
+    let front = end_there memory limit c interrupted in
+    (record { first = None; states = contexts_to_end memory limit c interrupted; why = front.0; popped = keeps_popped space limit c interrupted }, (refl, record { states = refl; why = front.1; marked = refl }))
 from_there (Some caller) space c interrupted limit =
     let front = end_there space (limit - 1) caller false in
-    (record { first = Some c; states = contexts_to_end space (limit - 1) caller false; why = front.0 }, (refl, record { states = refl; why = front.1 }))
+    (record { first = Some c; states = contexts_to_end space (limit - 1) caller false; why = front.0; popped = false }, (refl, record { states = refl; why = front.1; marked = refl }))
 
 traced_there : (space : SpaceValue) (code : List CodeValue) (c : Context) (interrupted : Bool) (limit : ℕ) → (t : TraceValue) × IsTrace space code c interrupted limit t
 traced_there space code c interrupted limit = from_there (called_from space code c interrupted) space c interrupted limit

@@ -18,7 +18,7 @@ use Rattle.backtrace.specs.Code.{PlacesValue, places_by}
 use Rattle.stack_snapshot.specs.Sampled.{SampledContent, sampled_in}
 use Rattle.backtrace.specs.declared.options.Options.{Options}
 use Rattle.backtrace.specs.Options.{options_of}
-use Rattle.backtrace.specs.Tracing.{TraceValue, IsNowhere, IsTrace}
+use Rattle.backtrace.specs.Tracing.{TraceValue, IsNowhere, IsPlainTrace, IsTrace}
 use Rattle.backtrace.specs.FramePointers.{AreGuesses}
 use Rattle.backtrace.specs.Stacks.{IsStackText}
 use Rattle.backtrace.specs.Threads.{IsThreadsOf}
@@ -28,6 +28,10 @@ use Rattle.backtrace.specs.Lines.{backtrace_text, contexts_of, form_with, states
 abbrev pub IsTraceOf : Content → PlacesValue → TraceValue → Type 0
 IsTraceOf s places t = IsTrace (space_of s) places.code s.start s.interrupted s.limit t
 
+-- the same by the tables alone, over the memory as it is
+abbrev pub IsPlainTraceOf : Content → PlacesValue → TraceValue → Type 0
+IsPlainTraceOf s places t = IsPlainTrace (space_of s) places.code s.start s.interrupted s.limit t
+
 -- the lines of a snapshot's trace
 abbrev pub text_of : Options → Content → PlacesValue → TraceValue → List ℕ
 text_of o s places t = backtrace_text o.registers s.interrupted places t
@@ -36,7 +40,7 @@ text_of o s places t = backtrace_text o.registers s.interrupted places t
 -- outermost one returns to 0, or that nothing covers the byte before its return address.
 abbrev pub chain_text : Options → Content → PlacesValue → State → List Call → List ℕ
 chain_text o s places start calls =
-    states_text (form_with o.registers s.interrupted places false) (states_of start calls) (end_reason_of_chain (space_of s).modules (last_state start calls))
+    states_text (form_with o.registers s.interrupted places false false) (states_of start calls) (end_reason_of_chain (space_of s).modules (last_state start calls))
 
 -- The snapshot was taken after a call to the address 0 or into no module, before anything else was done. The caller's state is the
 -- innermost of a chain of calls that the modules describe, and the limit has room for the start beside it.
@@ -51,7 +55,7 @@ pub record DescribesCallToNowhere (s : Content) (places : PlacesValue) (function
 -- the lines of the start and of that chain, where it is said that the return address was read from the stack
 abbrev pub called_text : Options → Content → PlacesValue → State → State → List Call → List ℕ
 called_text o s places start caller calls =
-    states_text (form_with o.registers s.interrupted places true) (start ∷ states_of caller calls) (end_reason_of_chain (space_of s).modules (last_state caller calls))
+    states_text (form_with o.registers s.interrupted places true false) (start ∷ states_of caller calls) (end_reason_of_chain (space_of s).modules (last_state caller calls))
 
 -- the walks that go on from a snapshot's trace by frame pointers
 abbrev pub AreGuessesOf : Content → PlacesValue → TraceValue → List TraceValue → Type 0

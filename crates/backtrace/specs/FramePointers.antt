@@ -77,7 +77,7 @@ guess_after pointers space code t =
 
 -- a trace is the walk by tables from such a caller, of at most so many states
 abbrev pub IsWalkFrom : SpaceValue → ℕ → Context → TraceValue → Type 0
-IsWalkFrom space limit c t = (t.first ≡ None) × IsFrontOf space limit c false t
+IsWalkFrom space limit c t = (t.first ≡ None) × IsFrontOf space limit c false false t
 
 module _ (pointers : Bool) (space : SpaceValue) (code : List CodeValue) (limit : ℕ) where
   -- Walks that go on from a trace, before whose end so many states stand: each from the caller by the frame pointer of the last

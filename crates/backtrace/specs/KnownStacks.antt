@@ -20,7 +20,7 @@ pub record BeginsKnownStack (s : Content) (places : PlacesValue) (start : State)
 -- returns to 0, or that nothing covers the address asked there.
 abbrev pub stack_text : (o : Options) (s : Content) (places : PlacesValue) (start : State) (callers : List State) → BeginsKnownStack s places start callers → List ℕ
 stack_text o s places start callers begins =
-    states_text (form_with o.registers s.interrupted places false) (start ∷ callers) (end_reason_of_stack (space_of s) s.interrupted start callers begins.starts.stack)
+    states_text (form_with o.registers s.interrupted places false false) (start ∷ callers) (end_reason_of_stack (space_of s) s.interrupted start callers begins.starts.stack)
 
 -- The snapshot was taken after a call to the address 0 or into no module, before anything else was done. The caller's state is the
 -- innermost of a known stack, and the limit has room for the start beside it.
@@ -35,4 +35,4 @@ pub record BeginsByCallToNowhere (s : Content) (places : PlacesValue) (start cal
 -- the lines of the start and of that stack, where it is said that the return address was read from the machine's stack
 abbrev pub called_stack_text : (o : Options) (s : Content) (places : PlacesValue) (start caller : State) (callers : List State) → BeginsByCallToNowhere s places start caller callers → List ℕ
 called_stack_text o s places start caller callers begins =
-    states_text (form_with o.registers s.interrupted places true) (start ∷ caller ∷ callers) (end_reason_of_stack (space_of s) false caller callers begins.stack)
+    states_text (form_with o.registers s.interrupted places true false) (start ∷ caller ∷ callers) (end_reason_of_stack (space_of s) false caller callers begins.stack)

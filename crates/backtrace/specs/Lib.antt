@@ -11,4 +11,6 @@ pub mod ChainSample
 pub mod KnownStacks
 pub mod KnownSample
 pub mod SignalSample
+pub mod PoppedStacks
+pub mod PoppedTraceSample
 pub mod PointedSample

@@ -33,12 +33,14 @@ place_text origins a inside = word a ++ origin_text (origin_at origins inside) a
 -- ---- frames
 
 -- What the lines say beside the states: registers too, whether the first state was interrupted, whether the second was read
--- from the stack, the number of the one to which a frame pointer led, if one did, and which files and code the snapshot names.
+-- from the stack, the number of the one to which a frame pointer led, if one did, whether popped registers were kept at the first,
+-- and which files and code the snapshot names.
 pub record FormValue : Type 0 where
   pub registers : Bool
   pub interrupted : Bool
   pub called : Bool
   pub pointed : Option ℕ
+  pub popped : Bool
   pub places : PlacesValue
 
 -- the frame's number, in two places at least
@@ -65,11 +67,15 @@ pointed_mark (Some n) i = if n == i then codes " (a guess, by the frame pointer)
 abbrev pub guess_text : FormValue → ℕ → List ℕ
 guess_text form i = if form.called && (i == 1) then codes " (return address on the stack)" else pointed_mark form.pointed i
 
+-- what marks the frame that was interrupted after registers were popped, which were kept
+abbrev pub mark_text : FormValue → ℕ → List ℕ
+mark_text form i = if form.popped && (i == 0) then codes " (popped registers kept)" else guess_text form i
+
 abbrev pub registers_text : FormValue → State → List ℕ
 registers_text form s = if form.registers then kept_text s else []
 
 unfoldable pub rest_text : FormValue → ℕ → State → List ℕ
-rest_text form i s = guess_text form i ++ registers_text form s
+rest_text form i s = mark_text form i ++ registers_text form s
 
 unfoldable pub frame_line : FormValue → ℕ → State → List ℕ
 frame_line form i s = line (number_text i ++ place_text form.places.origins s.ra (inside_of form i s) ++ rest_text form i s)
@@ -137,11 +143,12 @@ contexts_of t = option_to_list t.first ++ t.states
 abbrev pub shown_states : List Context → List State
 shown_states cs = map state_of cs
 
-abbrev pub form_with : Bool → Bool → PlacesValue → Bool → FormValue
-form_with registers interrupted places called = record { registers = registers; interrupted = interrupted; called = called; pointed = None; places = places }
+abbrev pub form_with : Bool → Bool → PlacesValue → (called popped : Bool) → FormValue
+form_with registers interrupted places called popped =
+    record { registers = registers; interrupted = interrupted; called = called; pointed = None; popped = popped; places = places }
 
 abbrev pub form_of : Bool → Bool → PlacesValue → TraceValue → FormValue
-form_of registers interrupted places t = form_with registers interrupted places (is_some t.first)
+form_of registers interrupted places t = form_with registers interrupted places (is_some t.first) t.popped
 
 -- What is written of a trace: by whether registers are asked for, whether its start was interrupted, and what the snapshot names.
 unfoldable pub backtrace_text : Bool → Bool → PlacesValue → TraceValue → List ℕ
@@ -151,7 +158,7 @@ backtrace_text registers interrupted places t = states_text (form_of registers i
 
 -- the same of states of which the first, with this number, is the one to which a frame pointer led
 abbrev pub pointed_form : FormValue → ℕ → FormValue
-pointed_form form n = record { registers = form.registers; interrupted = false; called = false; pointed = Some n; places = form.places }
+pointed_form form n = record { registers = form.registers; interrupted = false; called = false; pointed = Some n; popped = false; places = form.places }
 
 -- The lines of walks, one after another, that begin with such states, and last why the last of them goes no further, or for this
 -- reason where there are none.

@@ -40,11 +40,11 @@ places = record { origins = calling_places.origins; code = record { start = 0x50
 
 -- by tables there is the start alone
 abbrev pub trace : TraceValue
-trace = record { first = None; states = start ∷ []; why = NoModule 0x5010 }
+trace = record { first = None; states = start ∷ []; why = NoModule 0x5010; popped = false }
 
 -- and from its caller on the rest of the stack
 abbrev pub walk : TraceValue
-walk = record { first = None; states = contexts_to_end (space_of snapshot) 7 caller false; why = Outermost }
+walk = record { first = None; states = contexts_to_end (space_of snapshot) 7 caller false; why = Outermost; popped = false }
 
 abbrev pub json : List ℕ
 json = codes "{\"regions\":[{\"address\":\"0x500000\",\"bytes\":\"1400000000000000017a5200017810011b0c070890010000180000001c000000e00ff0ff2000000000410e108602430d064583031c00000000000000017a504c5200017810079bb92f00001b1b0c0708900100001800000024000000c40ff0ff30000000049b1f0000410e10830200002000000040000000d80ff0ff30000000048b1f0000420e10410e18440e2083038e02000000000000\"},{\"address\":\"0x502000\",\"bytes\":\"ffff01080810200020100000ff9b0c010408102001010000000000\"},{\"address\":\"0x503000\",\"bytes\":\"0040400000000000\"},{\"address\":\"0x70b0\",\"bytes\":\"000000000000000011000000000000000c0000000000000030104000000000002200000000000000601040000000000000000000000000000b000000000000000e000000000000000000000000000000\"}],\"modules\":[{\"kind\":\"elf\",\"start\":\"0x401000\",\"end\":\"0x401080\",\"eh_frame\":\"0x500000\",\"path\":\"/lib/three\",\"bias\":\"0x400000\"}],\"start\":{\"rip\":\"0x5010\",\"rsp\":\"0x70b0\",\"rbx\":\"0x11\",\"rbp\":\"0x70c0\",\"r14\":\"0x2e\"},\"limit\":8,\"interrupted\":true,\"code\":[{\"start\":\"0x5000\",\"end\":\"0x6000\",\"path\":\"/lib/bare\"}]}"

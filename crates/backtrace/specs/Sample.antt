@@ -31,7 +31,7 @@ snapshot = record {
 
 -- its caller is in no module either
 abbrev pub trace : TraceValue
-trace = record { first = Some (context 0 0x7000); states = context 0x1005 0x7008 ∷ []; why = NoModule 0x1004 }
+trace = record { first = Some (context 0 0x7000); states = context 0x1005 0x7008 ∷ []; why = NoModule 0x1004; popped = false }
 
 abbrev pub text : List ℕ
 text = line (codes "#0  0x0000000000000000")
@@ -64,7 +64,7 @@ samples = record {
 }
 
 abbrev pub other_trace : TraceValue
-other_trace = record { first = None; states = context 0x1005 0x7000 ∷ []; why = NoModule 0x1004 }
+other_trace = record { first = None; states = context 0x1005 0x7000 ∷ []; why = NoModule 0x1004; popped = false }
 
 abbrev pub other_text : List ℕ
 other_text = line (codes "#0  0x0000000000001005")
@@ -94,7 +94,7 @@ abbrev pub code_places : PlacesValue
 code_places = record { origins = []; code = record { start = 0x5000; end = 0x6000; path = codes "/lib/bare" } ∷ [] }
 
 abbrev pub code_trace : TraceValue
-code_trace = record { first = None; states = context 0x5000 0x7000 ∷ []; why = NoModule 0x5000 }
+code_trace = record { first = None; states = context 0x5000 0x7000 ∷ []; why = NoModule 0x5000; popped = false }
 
 abbrev pub in_code_text : List ℕ
 in_code_text = line (codes "#0  0x0000000000005000")

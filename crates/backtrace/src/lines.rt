@@ -3,7 +3,8 @@ ghost use Rattle.std.specs.Prelude.{◌≡◌, ◌^◌, ◌≤◌, ◌++◌, len
 ghost use Rattle.stack_deliver.specs.StateViews.{state_of};
 ghost use Rattle.backtrace.specs.Lines.{end_line, form_of, frame_line, pointed_form, pointed_mark};
 ghost use Rattle.backtrace.specs.Lines.{frame_lines, frame_text, gap_text, guess_text, inside_of};
-ghost use Rattle.backtrace.specs.Lines.{kept_text, limit_text, no_module_text, number_text};
+ghost use Rattle.backtrace.specs.Lines.{kept_text, limit_text, mark_text, no_module_text};
+ghost use Rattle.backtrace.specs.Lines.{number_text};
 ghost use Rattle.backtrace.specs.Lines.{origin_text, place_text, registers_text, rest_text};
 ghost use Rattle.backtrace.specs.Lines.{contexts_of, shown_states};
 ghost use Rattle.backtrace.specs.Lines.{undescribed_text, unread_text, usage_line};
@@ -31,6 +32,8 @@ pub struct Form<'a> {
     called: bool,
     /// The number of the state to which a frame pointer led, if one did.
     pointed: Option<usize>,
+    /// Whether registers were kept that were popped at the first state.
+    popped: bool,
     /// Which files and code the snapshot names.
     places: &'a Places,
 }
@@ -45,6 +48,7 @@ impl<'a> Model for Form<'a> {
       interrupted = f.interrupted;
       called = f.called;
       pointed = f.pointed;
+      popped = f.popped;
       places = f.places.now;
     } };
 }
@@ -63,6 +67,7 @@ pub fn form_of<'a>(
         interrupted,
         called: trace.first().is_some(),
         pointed: None,
+        popped: trace.popped(),
         places,
     }
 }
@@ -76,6 +81,7 @@ pub fn pointed_form<'a>(form: &Form<'a>, first: usize) -> Form<'a>
         interrupted: false,
         called: false,
         pointed: Some(first),
+        popped: false,
         places: form.places,
     }
 }
@@ -160,6 +166,18 @@ fn put_guess(report: &mut Report, form: &Form<'_>, index: usize) -> Result<(), A
     }
 }
 
+/// Puts that popped registers were kept at the frame, or how it was found without a table, where it
+/// was so.
+fn put_mark(report: &mut Report, form: &Form<'_>, index: usize) -> Result<(), AllocError>
+    ensures { OnOk result (report.new ≡ report.old ++ mark_text form.now index) }
+{
+    if form.popped && index == 0 {
+        report.put(" (popped registers kept)")
+    } else {
+        put_guess(report, form, index)
+    }
+}
+
 /// Puts the frame's registers, where they are asked for.
 fn put_registers(report: &mut Report, form: &Form<'_>, state: &Context) -> Result<(), AllocError>
     ensures { OnOk result (report.new ≡ report.old ++ registers_text form.now (state_of state.now)) }
@@ -205,7 +223,7 @@ fn put_rest(
 ) -> Result<(), AllocError>
     ensures { OnOk result (report.new ≡ report.old ++ rest_text form.now index (state_of state.now)) }
 {
-    put_guess(report, form, index)?;
+    put_mark(report, form, index)?;
     put_registers(report, form, state)
 }
 

@@ -1,13 +1,13 @@
 // One run of the program, from its words and its input to its output.
 ghost use Rattle.std.specs.Prelude.{◌≡◌, ◌≢◌, ◌⊎◌, ◌+◌, ◌^◌, ◌≤◌, ◌<◌, [], ◌∷◌, ℕ, List, IfOk, IfSome};
-ghost use Rattle.std.specs.Prelude.{IsSome, MatchResult, None, Some, Err, length, ⊤};
+ghost use Rattle.std.specs.Prelude.{IsFalse, IsSome, MatchResult, None, Some, Err, length, true, ⊤};
 ghost use Rattle.std.specs.Io.KnownBytes.{Appends, Keeps};
 ghost use Rattle.memory_image.specs.Ends.{Rose};
 ghost use Rattle.command_ends.specs.Answers.{AnswersBytes, KeepsToEnds, LeavesSource};
 ghost use Rattle.command_ends.specs.Verdicts.{Tells, IsReady, IsReadyOrFailed, verdict};
 ghost use Rattle.command_ends.specs.Verdicts.{ComesExactly};
 ghost use Rattle.stack_snapshot.specs.declared.errors.Field.{Field};
-ghost use Rattle.stack_snapshot.specs.Content.{Content};
+ghost use Rattle.stack_snapshot.specs.Content.{Content, space_of};
 ghost use Rattle.stack_snapshot.specs.Answers.{content_of, value_of};
 ghost use Rattle.stack_snapshot.specs.Described.{DescribesStop, DescribesWalk};
 ghost use Rattle.backtrace.specs.Code.{PlacesValue, places_by};
@@ -17,9 +17,14 @@ ghost use Rattle.unwind_definitions.specs.Chain.{Call};
 ghost use Rattle.backtrace.specs.KnownStacks.{BeginsByCallToNowhere, BeginsKnownStack};
 ghost use Rattle.backtrace.specs.KnownStacks.{called_stack_text, stack_text};
 ghost use Rattle.backtrace.specs.Options.{options_of};
-ghost use Rattle.backtrace.specs.Tracing.{TraceValue};
+ghost use Rattle.backtrace.specs.Tracing.{TraceValue, keeps_popped};
+ghost use Rattle.stack_walks.specs.declared.walk_end.EndReason.{EndReason};
+ghost use Rattle.stack_walks.specs.WalkEnds.{ComesTo};
+ghost use Rattle.backtrace.specs.PoppedStacks.{BeginsPoppedStack, PopsAtStart, kept_of};
+ghost use Rattle.backtrace.specs.PoppedStacks.{popped_stack_text, popped_text};
 ghost use Rattle.backtrace.specs.Lines.{usage_line};
 ghost use Rattle.backtrace.specs.Due.{Asks, IsBacktrace, IsBacktraceBy, IsBacktraceOf, IsTraceOf};
+ghost use Rattle.backtrace.specs.Due.{IsPlainTraceOf};
 ghost use Rattle.backtrace.specs.Due.{DescribesCallToNowhere, called_text, chain_text, text_of};
 ghost use Rattle.backtrace.specs.Due.{bytes_due, content_due, due_of, read_due};
 ghost use Rattle.backtrace.specs.Due.{AsksSamples, IsBacktraceIn, IsFaulty, IsOfSamples};
@@ -178,6 +183,22 @@ where
         Asks o words.now (I.left input.old) s places → IsTraceOf s places t →
         Tells (verdict Status.Done (text_of o s places t)) result (O.holds output.old)
         (O.holds output.new) }
+    // Where no popped register is kept, that trace is the one of the tables alone, over the
+    // snapshot's memory as it is.
+    ensures plain { (o : Options) (s : Content) (places : PlacesValue) (t : TraceValue) →
+        Asks o words.now (I.left input.old) s places → IsPlainTraceOf s places t →
+        IsFalse (keeps_popped (space_of s) s.limit s.start s.interrupted) →
+        Tells (verdict Status.Done (text_of o s places t)) result (O.holds output.old)
+        (O.holds output.new) }
+    // Where its thread was interrupted after registers were popped whose slots, below the stack
+    // pointer, aren't mapped, the step from its start is refused. These are then the lines of the
+    // walk over the memory in which the slots hold what the registers hold, and the first frame
+    // is marked.
+    ensures popped { (o : Options) (s : Content) (places : PlacesValue) (why : EndReason) →
+        Asks o words.now (I.left input.old) s places → PopsAtStart s →
+        ComesTo why (kept_of s) s.limit s.start true →
+        Tells (verdict Status.Done (popped_text o s places why)) result (O.holds output.old)
+        (O.holds output.new) }
     // With frame pointers these are, and then of each caller to which a frame pointer leads from where
     // no table describes the code, marked as a guess, and of the walk by tables from there; last why
     // the last of these walks goes no further.
@@ -233,6 +254,14 @@ where
         Asks o words.now (I.left input.old) s places →
         (begins : BeginsByCallToNowhere s places start caller callers) →
         Tells (verdict Status.Done (called_stack_text o s places start caller callers begins)) result
+        (O.holds output.old) (O.holds output.new) }
+    // And so they are, with a mark at the first, where registers were popped at its start, and
+    // over the memory that keeps them it begins such a stack.
+    ensures known_popped { (o : Options) (s : Content) (places : PlacesValue) (start : State)
+        (callers : List State) →
+        Asks o words.now (I.left input.old) s places →
+        (begins : BeginsPoppedStack s start callers) →
+        Tells (verdict Status.Done (popped_stack_text o s places start callers begins)) result
         (O.holds output.old) (O.holds output.new) }
     // Whatever the source tells, words that name no options are answered so, and no others.
     ensures usage { ComesExactly result Status.Usage (options_of words.now ≡ None) }

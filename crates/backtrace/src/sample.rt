@@ -1,6 +1,6 @@
 // Laws of backtraces, and worked examples that meet what the clauses ask for.
 ghost use Rattle.std.specs.Prelude.{◌≡◌, ◌≢◌, ℕ, List, [], ◌∷◌, Some, None, Ok, true, false, codes};
-ghost use Rattle.std.specs.Prelude.{◌%◌, slice_get, IsTrue};
+ghost use Rattle.std.specs.Prelude.{◌%◌, Bool, slice_get, IsFalse, IsTrue};
 ghost use Rattle.unwind_definitions.specs.State.{IsState, Shows};
 ghost use Rattle.unwind_definitions.specs.Entered.{IsEntered};
 ghost use Rattle.unwind_definitions.specs.Stopped.{StandsAfter};
@@ -13,8 +13,15 @@ ghost use Rattle.stack_steps.specs.StopSample.{after_the_push};
 ghost use Rattle.stack_snapshot.specs.Content.{Content, space_of};
 ghost use Rattle.backtrace.specs.Code.{CodeValue, PlacesValue, code_at, without_code};
 ghost use Rattle.backtrace.specs.Lines.{code_text, no_module_text, why_text};
-ghost use Rattle.backtrace.specs.Tracing.{TraceValue};
-ghost use Rattle.stack_walks.specs.declared.walk_end.EndReason.TheVariants.{NoModule};
+ghost use Rattle.backtrace.specs.Tracing.{TraceValue, IsCutAtStart, IsPlainTrace, IsTrace};
+ghost use Rattle.backtrace.specs.Tracing.{keeps_popped};
+ghost use Rattle.stack_walks.specs.declared.walk_end.EndReason.TheVariants.{NoModule, Outermost};
+ghost use Rattle.stack_walks.specs.Lines.{line_of};
+ghost use Rattle.stack_walks.specs.WalkEnds.{ComesTo};
+ghost use Rattle.unwind_arch.specs.declared.x86_64.Context.{Context};
+ghost use Rattle.backtrace.specs.PoppedStacks.{BeginsPoppedStack, PopsAtStart, kept_of};
+ghost use Rattle.backtrace.specs.PoppedStacks.{popped_stack_text, popped_text};
+ghost use Rattle.backtrace.specs.PoppedTraceSample as popped;
 ghost use Rattle.stack_snapshot.specs.Sampled.{SampledContent, sampled_in};
 ghost use Rattle.folded_stacks.specs.declared.samples.Sample.{Sample};
 ghost use Rattle.unwind_definitions.specs.Chain.{Call};
@@ -29,7 +36,8 @@ ghost use Rattle.backtrace.specs.PointedSample as pointed;
 ghost use Rattle.backtrace.specs.FramePointers.{AreGuesses, frame_pointer_steps, is_called_code};
 ghost use Rattle.stack_steps.specs.Modules.{SpaceValue};
 ghost use Rattle.backtrace.specs.Due.{Asks, AsksSamples, DescribesCallToNowhere, IsBacktrace};
-ghost use Rattle.backtrace.specs.Due.{IsTraceOf, AreGuessesOf, AsksPointers, guessed_text_of};
+ghost use Rattle.backtrace.specs.Due.{IsPlainTraceOf, IsTraceOf, AreGuessesOf, AsksPointers};
+ghost use Rattle.backtrace.specs.Due.{guessed_text_of};
 ghost use Rattle.backtrace.specs.Due.{called_text, chain_text, error_in, text_of};
 ghost use Rattle.backtrace.specs.Threads.{HasThread, IsThreadsOf, alone};
 ghost use Rattle.backtrace.specs.KnownSample as known;
@@ -69,6 +77,36 @@ pub fn nothing_is_guessed_in_code()
         code_at places.code s.start.ra ≡ Some c → IsTraceOf s places t → t.first ≡ None }
 {}
 
+/// A trace without a mark is that of the tables alone, over the memory as it is; and that one is
+/// the trace where no popped register is kept.
+pub fn an_unmarked_trace_is_plain()
+    ensures plain { (space : SpaceValue) (code : List CodeValue) (c : Context)
+        (interrupted : Bool) (limit : ℕ) (t : TraceValue) →
+        IsTrace space code c interrupted limit t → t.popped ≡ false →
+        IsPlainTrace space code c interrupted limit t }
+    ensures trace { (space : SpaceValue) (code : List CodeValue) (c : Context)
+        (interrupted : Bool) (limit : ℕ) (t : TraceValue) →
+        keeps_popped space limit c interrupted ≡ false →
+        IsPlainTrace space code c interrupted limit t → IsTrace space code c interrupted limit t }
+{}
+
+/// Where a trace is marked, its thread was interrupted, and the step from its start meets what
+/// isn't mapped: without popped registers its stack is cut at its first frame.
+pub fn only_a_cut_stack_is_marked()
+    ensures { (space : SpaceValue) (code : List CodeValue) (c : Context)
+        (interrupted : Bool) (limit : ℕ) (t : TraceValue) →
+        IsTrace space code c interrupted limit t → t.popped ≡ true →
+        IsCutAtStart space c interrupted }
+{}
+
+/// Of a stack that is walked whole by tables alone no trace is marked.
+pub fn a_whole_stack_is_unmarked()
+    ensures { (space : SpaceValue) (code : List CodeValue) (c : Context)
+        (interrupted : Bool) (limit : ℕ) (t : TraceValue) (states : List Context) →
+        IsTrace space code c interrupted limit t →
+        line_of space limit c interrupted ≡ Ok states → t.popped ≡ false }
+{}
+
 /// Of a thread whose start begins a stack of each of whose frames it is known how its caller's state
 /// follows, the lines of samples have, in their place, its number and the lines of that stack.
 pub fn a_known_thread_has_its_lines()
@@ -78,6 +116,17 @@ pub fn a_known_thread_has_its_lines()
         (begins : BeginsKnownStack (alone s x) places start callers) → IsThreadsOf o s places text →
         HasThread o s places index
         (stack_text o (alone s x) places start callers begins) text }
+{}
+
+/// So they have of one that was interrupted after registers were popped, and that begins such a
+/// stack over the memory that keeps them. The line of its first frame is marked.
+pub fn a_popped_thread_has_its_lines()
+    ensures { (o : Options) (bytes : List ℕ) (s : SampledContent) (places : PlacesValue)
+        (index : ℕ) (x : Sample) (start : State) (callers : List State) (text : List ℕ) →
+        o.frame_pointers ≡ false → sampled_in bytes ≡ Ok s → slice_get s.samples index ≡ Some x →
+        (begins : BeginsPoppedStack (alone s x) start callers) → IsThreadsOf o s places text →
+        HasThread o s places index
+        (popped_stack_text o (alone s x) places start callers begins) text }
 {}
 
 /// So it has of one that begins a described chain.
@@ -99,11 +148,14 @@ pub fn null_call_is_traced()
     ensures written { text_of plain snapshot (without_code []) trace ≡ text }
 {}
 
-/// So does one that was taken in code without a table, though the same word stands at its stack pointer:
-/// it has one frame, and the last line names the code's file.
+/// So does one that was taken in code without a table, though the same word stands at its stack
+/// pointer: it has one frame, and the last line names the code's file. No popped register is kept
+/// there, and that is the trace by tables alone.
 pub fn stop_in_code_is_traced()
     ensures asked { Asks plain [] (Some code_json) in_code code_places }
     ensures traced { IsTraceOf in_code code_places code_trace }
+    ensures plain { IsPlainTraceOf in_code code_places code_trace }
+    ensures unmarked { IsFalse (keeps_popped (space_of in_code) in_code.limit in_code.start true) }
     ensures written { text_of plain in_code code_places code_trace ≡ in_code_text }
 {}
 
@@ -127,6 +179,33 @@ pub fn frame_pointer_leads_to_a_caller()
     ensures called { IsTrue (is_called_code (space_of pointed.snapshot) pointed.places.code
         three.second.ra) }
     ensures shows { Shows (columns_of pointed.snapshot.start) pointed.callee }
+{}
+
+/// A snapshot that was taken at the return of a function that pushes RBX, after the pop, with the
+/// stack from its stack pointer on, meets what `run` asks of one whose start keeps popped
+/// registers, from its bytes on; and over the memory that keeps RBX it begins a stack of each of
+/// whose frames it is known how its caller's state follows. This text is then written.
+pub fn popped_register_is_traced()
+    ensures asked { Asks plain [] (Some popped.json) popped.snapshot popped.places }
+    ensures pops { PopsAtStart popped.snapshot }
+    ensures ends { ComesTo Outermost (kept_of popped.snapshot) popped.snapshot.limit
+        popped.snapshot.start true }
+    ensures begins { BeginsPoppedStack popped.snapshot popped.at_return popped.callers }
+    ensures traced { IsTraceOf popped.snapshot popped.places popped.trace }
+    ensures written { text_of plain popped.snapshot popped.places popped.trace ≡ popped.text }
+    ensures kept { popped_text plain popped.snapshot popped.places Outermost ≡ popped.text }
+    ensures known { (begins : BeginsPoppedStack popped.snapshot popped.at_return popped.callers) →
+        popped_stack_text plain popped.snapshot popped.places popped.at_return popped.callers
+        begins ≡ popped.text }
+{}
+
+/// As a sample it meets what `run` asks of samples, from their bytes on, and these lines are then
+/// written.
+pub fn popped_sample_is_traced()
+    ensures asked { AsksSamples (record plain { samples = true }) (codes "--samples" ∷ [])
+        (Some popped.samples_json) popped.samples popped.places }
+    ensures traced { IsThreadsOf (record plain { samples = true }) popped.samples popped.places
+        popped.threads }
 {}
 
 /// Where frame pointers aren't asked for, no walk goes on by one.

@@ -8,13 +8,16 @@ ghost use Rattle.unwind_definitions.specs.Prologue.{PrologueStep};
 ghost use Rattle.unwind_definitions.specs.Stopped.{StandsAfter};
 ghost use Rattle.unwind_arch.specs.ContextViews.{columns_of};
 ghost use Rattle.stack_steps.specs.Stepping.{EndsAt};
+ghost use Rattle.stack_walks.specs.WalkEnds.{ComesTo, contexts_to_end};
 ghost use Rattle.backtrace.specs.Tracing.{IsNowhere, IsTrace, called_from, is_nowhere, returned_caller};
+ghost use Rattle.backtrace.specs.Tracing.{keeps_popped, start_space};
 ghost use Rattle.backtrace.specs.FramePointers.{IsWalkFrom, guess_after, last_of};
 ghost use Rattle.backtrace.specs.Lines.{contexts_of};
 
 use crate::code::CodeRanges;
 use crate::pointers::{caller_by_pointer, is_without_table};
 use memory_image::{MemoryImage, NoLedger, Steps};
+use popped_registers::{KeptWalk, walk_interrupted};
 use stack_deliver::{Context, EndReason, Room, Space, walk_to_end_into};
 use std::alloc::{AllocError, Global};
 use std::marker::Model;
@@ -83,12 +86,14 @@ pub fn called_from(
 /// The states of a stack as far as they are known, and why there are no more.
 ///
 /// Contracts see the start where its caller was read from the stack, the states of the walk from
-/// there on or from the start, the reason of the walk's end, and for how many states there is place.
+/// there on or from the start, the reason of the walk's end, whether popped registers were kept,
+/// and for how many states there is place.
 #[derive(Drop)]
 pub struct Trace {
     first: Option<Context>,
     room: Room,
     why: EndReason,
+    popped: bool,
 }
 
 impl Model for Trace {
@@ -97,7 +102,7 @@ impl Model for Trace {
     ghost Value = { TracedValue };
 
     ghost view = { λ t. record {
-      trace = record { first = t.first; states = t.room.visited; why = t.why };
+      trace = record { first = t.first; states = t.room.visited; why = t.why; popped = t.popped };
       places = t.room.limit;
     } };
 }
@@ -129,6 +134,13 @@ impl Trace {
         ensures { result ≡ self.now.trace.why }
     {
         self.why
+    }
+
+    /// Whether registers were kept that were popped where the thread was interrupted.
+    pub fn popped(&self) -> bool
+        ensures { result ≡ self.now.trace.popped }
+    {
+        self.popped
     }
 
     /// How many states there are, with the start.
@@ -176,11 +188,45 @@ impl Trace {
     {
         let mut steps = Steps::new(NoLedger);
         self.first = None;
+        self.popped = false;
         self.why = walk_to_end_into(space, caller, false, limit, &mut self.room, &mut steps);
     }
 }
 
+/// Walks a stack from its start into a room as far as it goes, and answers why it goes no
+/// further. Where the thread was interrupted there, popped registers are kept, and the answer
+/// says whether any were.
+fn walk_from_start<'s, 't>(
+    space: &'s Space<'t>,
+    start: &Context,
+    interrupted: bool,
+    limit: u32,
+    room: &mut Room,
+) -> KeptWalk
+where
+    't: 's,
+    requires { limit ≤ room.old.limit }
+    ensures states { room.new.visited ≡ contexts_to_end
+        (start_space space.now limit start.now interrupted) limit start.now interrupted }
+    ensures why { ComesTo result.why (start_space space.now limit start.now interrupted) limit
+        start.now interrupted }
+    ensures popped { result.popped ≡ keeps_popped space.now limit start.now interrupted }
+    ensures places { room.new.limit ≡ room.old.limit }
+{
+    if interrupted {
+        let image: &'s MemoryImage<'s> = space.image();
+        walk_interrupted(space, image, start, limit, room)
+    } else {
+        let mut steps = Steps::new(NoLedger);
+        let why = walk_to_end_into(space, start, false, limit, room, &mut steps);
+        KeptWalk { why, popped: false }
+    }
+}
+
 /// Traces the stack whose innermost frame has the registers `start`, at most so many states.
+///
+/// Where the thread was interrupted there, after registers were popped whose slots aren't mapped,
+/// the trace keeps them, and is marked ([`walk_interrupted`]).
 ///
 /// # Errors
 ///
@@ -199,23 +245,25 @@ pub fn trace_stack(
     ensures places { IfOk result (λ traced. traced.places ≡ limit) }
 {
     let mut room = Room::new(alloc, limit)?;
-    let mut steps = Steps::new(NoLedger);
     match called_from(space, code, start, interrupted) {
         Some(caller) => {
+            let mut steps = Steps::new(NoLedger);
             let most = limit.saturating_sub(1);
             let why = walk_to_end_into(space, &caller, false, most, &mut room, &mut steps);
             Ok(Trace {
                 first: Some(*start),
                 room,
                 why,
+                popped: false,
             })
         }
         None => {
-            let why = walk_to_end_into(space, start, interrupted, limit, &mut room, &mut steps);
+            let walk = walk_from_start(space, start, interrupted, limit, &mut room);
             Ok(Trace {
                 first: None,
                 room,
-                why,
+                why: walk.why,
+                popped: walk.popped,
             })
         }
     }

@@ -1,4 +1,4 @@
-use Rattle.std.proofs.Common.{◌≡◌, ◌∙◌, ℕ, List, length, Option, Some, None, refl, sym, ap, subst, rules, arith}
+use Rattle.std.proofs.Common.{◌≡◌, ◌∙◌, List, length, Some, None, sym, ap, subst, arith}
 use Rattle.memory_image.specs.Image.{Span}
 use Rattle.unwind_arch.specs.declared.x86_64.Context.{Context}
 use Rattle.backtrace.specs.FramePointers.{pointed_caller}

@@ -11,6 +11,7 @@ use Rattle.backtrace.proofs.Chains.{called_traced, chain_traced, stop_traced}
 use Rattle.backtrace.proofs.Faults.{IsBad, bad_told, no_json_told}
 use Rattle.stack_snapshot.specs.declared.errors.SnapshotError.TheVariants as faults
 use Rattle.backtrace.proofs.KnownTraces.{stack_traced, called_stack_traced}
+use Rattle.backtrace.proofs.PoppedTraces.{plain_traced, popped_traced, popped_stack_traced}
 use Rattle.backtrace.proofs.running.run.Goals as goal
 
 pub returns-clause-told : goal.returns-clause-told
@@ -49,6 +50,16 @@ returns-clause-traced g c = λ o s places t asks is.
     let text = text_of o s places t in
     subst P (asked_due false o words (g.I.Source.left c.args.input.now) s places text asks)
     (of_some (g.I.Source.left c.args.input.now) asks.bytes R asks.source_is (returns-clause-told g c) text (asked_backtrace o words (g.I.Source.left c.args.input.now) s places t asks is))
+
+pub returns-clause-plain : goal.returns-clause-plain
+returns-clause-plain g c = λ o s places t asks is none.
+    returns-clause-traced g c o s places t asks (plain_traced s o places t none is)
+
+pub returns-clause-popped : goal.returns-clause-popped
+returns-clause-popped g c = λ o s places why asks pops comes.
+    let t = popped_traced s o places why pops comes in
+    let P : List ℕ → Type 0 = λ text. Tells (verdict Done text) c.write_answer.result (g.O.Sink.holds c.args.output.now) (g.O.Sink.holds c.write_answer.new.output) in
+    subst P t.2 (returns-clause-traced g c o s places t.0 asks t.1)
 
 pub returns-clause-guessed : goal.returns-clause-guessed
 returns-clause-guessed g c = λ o s places t ts asks is guesses.
@@ -112,5 +123,11 @@ returns-clause-known g c = λ o s places start callers asks begins.
 pub returns-clause-known_call : goal.returns-clause-known_call
 returns-clause-known_call g c = λ o s places start caller callers asks begins.
     let t = called_stack_traced s (content_apart asks.bytes s asks.reads) (content_laid_out asks.bytes s asks.reads) (content_whole asks.bytes s asks.reads) o places start caller callers begins in
+    let P : List ℕ → Type 0 = λ text. Tells (verdict Done text) c.write_answer.result (g.O.Sink.holds c.args.output.now) (g.O.Sink.holds c.write_answer.new.output) in
+    subst P t.2 (returns-clause-traced g c o s places t.0 asks t.1)
+
+pub returns-clause-known_popped : goal.returns-clause-known_popped
+returns-clause-known_popped g c = λ o s places start callers asks begins.
+    let t = popped_stack_traced s o places (content_apart asks.bytes s asks.reads) (content_laid_out asks.bytes s asks.reads) start callers begins in
     let P : List ℕ → Type 0 = λ text. Tells (verdict Done text) c.write_answer.result (g.O.Sink.holds c.args.output.now) (g.O.Sink.holds c.write_answer.new.output) in
     subst P t.2 (returns-clause-traced g c o s places t.0 asks t.1)

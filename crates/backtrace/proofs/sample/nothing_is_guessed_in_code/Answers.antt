@@ -1,8 +1,7 @@
-use Rattle.std.proofs.Common.{◌≡◌, Bool, true, false, None, refl}
-use Rattle.std.specs.Prelude.{◌&&◌}
+use Rattle.std.proofs.Common.{◌≡◌, None}
 use Rattle.stack_snapshot.specs.Content.{space_of}
 use Rattle.backtrace.specs.Tracing.{called_from}
-use Rattle.backtrace.proofs.Chains.{code_is_somewhere}
+use Rattle.backtrace.proofs.Somewhere.{code_is_somewhere}
 use Rattle.backtrace.proofs.sample.nothing_is_guessed_in_code.Goals as goal
 
 pub returns : goal.returns

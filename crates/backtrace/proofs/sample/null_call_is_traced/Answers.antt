@@ -34,6 +34,7 @@ returns-clause-traced c = (
   record {
     states = refl;
     why = inl (returns_somewhere, ends_step (space_of snapshot) (context 0x1005 0x7008) false (inr (returns_somewhere, tt)), refl);
+    marked = refl;
   },
 )
 

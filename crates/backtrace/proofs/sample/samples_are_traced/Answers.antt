@@ -1,4 +1,4 @@
-use Rattle.std.proofs.Common.{inl, inr, ◌≡◌, ◌≢◌, ℕ, [], ◌++◌, true, false, refl, sym, ap, ◌∙◌, lit≤}
+use Rattle.std.proofs.Common.{inl, inr, ◌≢◌, ℕ, [], true, false, refl, lit≤}
 use Rattle.std.specs.Char.{encode_utf8}
 use Rattle.std.specs.Str.{is_utf8, chars}
 use Rattle.std.specs.Fmt.{digits}
@@ -8,7 +8,6 @@ use Rattle.memory_image.specs.Image.{word_at}
 use Rattle.stack_steps.specs.Stepping.{step_of, frame_of}
 use Rattle.stack_steps.proofs.StepAnswers.{ends_step}
 use Rattle.stack_snapshot.specs.Answers.{value_of}
-use Rattle.stack_snapshot.specs.Content.{space_of}
 use Rattle.stack_snapshot.specs.Origins.{origins_of}
 use Rattle.backtrace.specs.Code.{code_of}
 use Rattle.stack_snapshot.specs.Sampled.{depth_of, sampled_of, sampled_space, samples_of}
@@ -16,7 +15,7 @@ use Rattle.stack_snapshot.specs.Snapshot.{regions_of, modules_of, start_of, inte
 use Rattle.stack_report.specs.Digits.{hexadecimal, word}
 use Rattle.backtrace.specs.Lines.{frame_line, no_module_text, place_text, rest_text, thread_line, traces_text}
 use Rattle.backtrace.specs.Tracing.{IsTrace}
-use Rattle.backtrace.specs.Sample.{context, other_text, other_trace, samples, samples_json, text, trace}
+use Rattle.backtrace.specs.Sample.{context, other_trace, samples, samples_json, trace}
 use Rattle.backtrace.proofs.sample.samples_are_traced.Goals as goal
 
 pub returns-clause-asked : goal.returns-clause-asked
@@ -33,6 +32,7 @@ first_trace = (
   record {
     states = refl;
     why = inl (returns_somewhere, ends_step (sampled_space samples) (context 0x1005 0x7008) false (inr (returns_somewhere, tt)), refl);
+    marked = refl;
   },
 )
 
@@ -43,6 +43,7 @@ second_trace = (
   record {
     states = refl;
     why = inl (returns_somewhere, ends_step (sampled_space samples) (context 0x1005 0x7000) false (inr (returns_somewhere, tt)), refl);
+    marked = refl;
   },
 )
 

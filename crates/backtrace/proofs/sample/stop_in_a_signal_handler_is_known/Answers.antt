@@ -29,5 +29,5 @@ pub returns-clause-written : goal.returns-clause-written
 unfolding digits hexadecimal word states_text frame_line place_text rest_text
 returns-clause-written c begins =
     let front = ends_outermost (space_of snapshot) true signals.in_work signals.callers begins.starts.stack refl in
-    let written : states_text (form_with false true places false) (signals.in_work ∷ signals.callers) Outermost ≡ text = refl in
-    ap (states_text (form_with false true places false) (signals.in_work ∷ signals.callers)) front ∙ written
+    let written : states_text (form_with false true places false false) (signals.in_work ∷ signals.callers) Outermost ≡ text = refl in
+    ap (states_text (form_with false true places false false) (signals.in_work ∷ signals.callers)) front ∙ written

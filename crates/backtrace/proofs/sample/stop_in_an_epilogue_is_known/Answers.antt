@@ -29,5 +29,5 @@ pub returns-clause-written : goal.returns-clause-written
 unfolding digits hexadecimal word states_text frame_line place_text rest_text
 returns-clause-written c begins =
     let front = ends_outermost (space_of snapshot) true layouts.popped layouts.states begins.starts.stack refl in
-    let written : states_text (form_with false true places false) (layouts.popped ∷ layouts.states) Outermost ≡ text = refl in
-    ap (states_text (form_with false true places false) (layouts.popped ∷ layouts.states)) front ∙ written
+    let written : states_text (form_with false true places false false) (layouts.popped ∷ layouts.states) Outermost ≡ text = refl in
+    ap (states_text (form_with false true places false false) (layouts.popped ∷ layouts.states)) front ∙ written

@@ -7,6 +7,7 @@ use Rattle.serde_json.proofs.OnLiterals.{serde_json_on_literals}
 use Rattle.memory_image.specs.Image.{word_at}
 use Rattle.stack_steps.specs.Stepping.{step_of, frame_of}
 use Rattle.stack_steps.proofs.StepAnswers.{ends_step}
+use Rattle.popped_registers.specs.PoppedRegisters.{popped_in}
 use Rattle.stack_snapshot.specs.Answers.{value_of}
 use Rattle.stack_snapshot.specs.Content.{space_of}
 use Rattle.stack_snapshot.specs.Origins.{origins_of}
@@ -25,14 +26,30 @@ stands_somewhere : ◌≢◌ {A = ℕ} 0x5000 0
 stands_somewhere h = cc
 
 pub returns-clause-traced : goal.returns-clause-traced
-unfolding word_at step_of frame_of
+unfolding word_at step_of frame_of popped_in
 returns-clause-traced c = (
   refl,
   record {
     states = refl;
     why = inl (stands_somewhere, ends_step (space_of in_code) (context 0x5000 0x7000) true (inr (stands_somewhere, tt)), refl);
+    marked = refl;
   },
 )
+
+pub returns-clause-plain : goal.returns-clause-plain
+unfolding word_at step_of frame_of
+returns-clause-plain c = (
+  refl,
+  record {
+    states = refl;
+    why = inl (stands_somewhere, ends_step (space_of in_code) (context 0x5000 0x7000) true (inr (stands_somewhere, tt)), refl);
+    marked = refl;
+  },
+)
+
+pub returns-clause-unmarked : goal.returns-clause-unmarked
+unfolding step_of frame_of popped_in
+returns-clause-unmarked c = refl
 
 pub returns-clause-written : goal.returns-clause-written
 unfolding digits hexadecimal word backtrace_text code_text states_text frame_line place_text rest_text

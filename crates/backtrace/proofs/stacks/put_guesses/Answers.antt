@@ -1,6 +1,5 @@
-use Rattle.std.proofs.Common.{◌≡◌, ℕ, ◌+◌, ◌-◌, ◌≤◌, ◌<◌, ◌++◌, [], length, List, Option, Some, None, refl, sym, ap, subst, ◌∙◌, arith}
+use Rattle.std.proofs.Common.{◌≡◌, ℕ, ◌+◌, ◌-◌, ◌≤◌, ◌<◌, ◌++◌, [], length, List, Some, None, sym, ap, subst, ◌∙◌, arith}
 use Rattle.std.proofs.lemmas.Result.{on_ok_weaker}
-use Rattle.unwind_arch.specs.declared.x86_64.Context.{Context}
 use Rattle.stack_walks.specs.declared.walk_end.EndReason.{EndReason}
 use Rattle.backtrace.specs.Code.{CodeValue, PlacesValue}
 use Rattle.backtrace.specs.FramePointers.{guess_after, IsWalkFrom}

@@ -1,5 +1,6 @@
-use Rattle.std.proofs.Common.{◌≡◌, ◌≤◌, ◌-◌, false, length, arith}
+use Rattle.std.proofs.Common.{◌≡◌, ◌-◌, false, arith}
 use Rattle.stack_walks.specs.WalkEnds.{caller_from, start_state}
+use Rattle.backtrace.specs.Tracing.{start_space}
 use Rattle.backtrace.proofs.Guesses.{reached_most}
 use Rattle.backtrace.proofs.tracing.trace_stack.Goals as goal
 
@@ -9,7 +10,8 @@ returns-in-Some-clause-most c =
     let less : c.saturating_sub-most.result ≡ c.args.limit - 1 = c.saturating_sub-most.ensures in
     rw c.walk_to_end_into-why.ensures.states (omega arith)
 
-pub returns-clause-most : goal.returns-clause-most
-returns-clause-most c =
-    let most = reached_most (caller_from c.args.space.now) c.args.limit (start_state c.args.start.now c.args.interrupted) in
-    rw c.walk_to_end_into-why-in-None.ensures.states most
+pub returns-in-None-clause-most : goal.returns-in-None-clause-most
+returns-in-None-clause-most c =
+    let memory = start_space c.args.space.now c.args.limit c.args.start.now c.args.interrupted in
+    let most = reached_most (caller_from memory) c.args.limit (start_state c.args.start.now c.args.interrupted) in
+    rw c.walk_from_start-walk.ensures.states most
