@@ -5,9 +5,10 @@
 
 It builds small programs in out/, stops them under gdb, and takes snapshots by tools/snapshot.py: after a call
 through a null and a wild pointer, with the stack cut, in a function without a frame table, in a program
-linked with musl (Debian: musl-tools). Other snapshots are changed: an entry of the frame table is damaged, and
-a saved frame pointer leads back to itself. Of each it prints the backtrace, and compares its addresses with
-gdb's where gdb comes as far. The status is 1 where one isn't as it has to be.
+linked with musl (Debian: musl-tools). Other snapshots are changed: an entry of the frame table is damaged, a
+saved frame pointer leads back to itself, and of a function that was stopped at its return, after it popped
+registers, the stack is cut below its stack pointer. Of each it prints the backtrace, and compares its
+addresses with gdb's where gdb comes as far. The status is 1 where one isn't as it has to be.
 """
 from __future__ import annotations
 
@@ -42,6 +43,7 @@ class Trial:
     # fewer frames than gdb has, which goes on by reading code or memory that the snapshot lacks
     front: bool = False
     guessed: bool = False
+    popped: bool = False
 
 
 def built(source: str, name: str, *options: str, compiler: str = "gcc") -> list[str]:
@@ -97,7 +99,21 @@ def damage_program(snapshot: Object) -> None:
     region["bytes"] = region["bytes"][: place + 34] + "3f" + region["bytes"][place + 36 :]
 
 
+def cut_below(snapshot: Object) -> None:
+    """Takes away what lies below the stack pointer, as where a copy of the stack begins there."""
+    pointer = int(snapshot["start"]["rsp"], 16)
+    for region in snapshot["regions"]:
+        below = pointer - int(region["address"], 16)
+        if 0 <= below < len(region["bytes"]) // 2:
+            region["address"], region["bytes"] = hex(pointer), region["bytes"][2 * below :]
+
+
 RUN_TO_SIGNAL = ["-ex", "run"]
+# From a function's first instruction on over its calls, up to its return.
+TO_RETURN = (
+    "python [gdb.execute('nexti', to_string=True) for _ in iter(lambda: gdb.selected_frame().architecture()"
+    ".disassemble(gdb.selected_frame().pc())[0]['asm'].startswith('ret'), True)]"
+)
 
 
 def run_to(function: str) -> list[str]:
@@ -111,6 +127,10 @@ BARE = [
     ["gcc", "-O0", "-c", "-DBARE", "-fno-asynchronous-unwind-tables", "-o", f"{OUT}/ends-bare.o", f"{HERE}/no_tables.c"],
     built("no_tables.c", "ends-no_tables", f"{OUT}/ends-bare.o"),
 ]
+LAYOUTS = [
+    ["gcc", "-O2", "-fno-pie", "-no-pie", "-static", "-nostdlib", "-fcf-protection=none", "-fno-stack-protector",
+     "-o", f"{OUT}/ends-layouts", "/usr/lib/x86_64-linux-gnu/crt1.o", f"{HERE}/frame_layouts.c"],
+]
 MUSL = [built("nested.c", "ends-musl", "-static", compiler="musl-gcc")]
 
 TRIALS = [
@@ -121,6 +141,7 @@ TRIALS = [
     Trial("a damaged entry", NESTED, ["ends-nested"], "UnknownVersion", run_to("innermost"), change=damage_table, frames=1),
     Trial("a damaged program of an entry", NESTED, ["ends-nested"], "UnknownInstruction", run_to("innermost"), change=damage_program),
     Trial("a stack that loops", NESTED, ["ends-nested"], "more frames than the limit", run_to("innermost"), options="--limit 8", change=loop_stack, frames=8),
+    Trial("a return after pops", LAYOUTS, ["ends-layouts"], "the outermost frame", [*run_to("*sums"), "-ex", TO_RETURN], change=cut_below, popped=True),
     Trial("a program with musl", MUSL, ["ends-musl"], "no description of", run_to("innermost"), front=True),
 ]
 
@@ -170,6 +191,7 @@ def tried(trial: Trial, backtrace: str) -> bool:
         if trial.front
         else len(frames) == (trial.frames or len(expected)),
         "the mark": ["(return address on the stack)" in line for line in frames[1:2]] == [trial.guessed] or len(frames) < 2,
+        "the mark of popped registers": ["(popped registers kept)" in line for line in frames[:1]] == [trial.popped],
         "gdb's addresses": trial.change is loop_stack or addresses == expected[: len(addresses)],
     }
     wrong = [what for what, right in as_expected.items() if not right]

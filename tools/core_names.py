@@ -23,7 +23,7 @@ import sys
 from typing import Callable, Iterator, NamedTuple
 
 from elf_image import SEGMENT_LOADED, WORD, ElfImage, Refused
-from names import GUESSED, Module, ReportedFrame, Symbols, all_symbols, module_at, modules_of, program_of, texts_of
+from names import GUESSED, KEPT, Module, ReportedFrame, Symbols, all_symbols, module_at, modules_of, program_of, texts_of
 from snapshot_file import Object, read_object
 from symbols import asked_addresses, name_without_lines
 
@@ -37,12 +37,13 @@ RESTORER = bytes.fromhex("48c7c00f0000000f05")
 
 
 class Walk(NamedTuple):
-    """A thread's walk in a report: return addresses from the start outwards, the line after them, and whether the second was
-    guessed."""
+    """A thread's walk in a report: return addresses from the start outwards, the line after them, whether the second was
+    guessed, and whether popped registers were kept at the first."""
 
     addresses: list[int]
     last: str
     guessed: bool = False
+    popped: bool = False
 
 
 class ThreadStart(NamedTuple):
@@ -71,7 +72,8 @@ def walk_of(text: str) -> Walk:
     returns = FRAME.findall(text)
     known = {digits: int(digits, 16) for digits in set(returns)}
     last = text.rstrip("\n").rpartition("\n")[2]
-    return Walk([known[digits] for digits in returns], last if LAST.fullmatch(last) else "", f"{GUESSED}\n" in text)
+    ending = last if LAST.fullmatch(last) else ""
+    return Walk([known[digits] for digits in returns], ending, f"{GUESSED}\n" in text, f"{KEPT}\n" in text)
 
 
 def walks_of(report: str) -> list[Walk]:
@@ -129,7 +131,7 @@ def frames_of(walk: Walk, start: ThreadStart, restorers: set[int]) -> Iterator[R
         if level == 1 and walk.guessed:
             yield ReportedFrame(address, address - 1, note=GUESSED)
         elif interrupted or is_signal:
-            yield ReportedFrame(address, address, is_signal)
+            yield ReportedFrame(address, address, is_signal, KEPT if walk.popped and level == 0 else "")
         else:
             yield called.get(address) or called.setdefault(address, ReportedFrame(address, address - 1))
         interrupted = is_signal

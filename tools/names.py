@@ -50,6 +50,7 @@ FRAME_LINE = re.compile(
 THREAD_LINE = re.compile(r"^[Tt]hread ")
 OUTERMOST = ("end: the outermost frame, which returns to 0", "end")
 GUESSED = " (return address on the stack)"
+KEPT = " (popped registers kept)"
 
 
 class ReportedFrame(NamedTuple):

@@ -1,4 +1,4 @@
-"""Divides a perf.data file by the programs whose samples it has, each part of a size that `profile` takes.
+"""Divides a perf.data file by the programs whose samples it has.
 
 `profile` walks the samples of a file over one set of tables. So the samples of each program that ran, with those of processes
 that it forked and that run it too, are a part of their own, with the mappings of that program. A part is a perf.data file with
@@ -8,12 +8,12 @@ processors that they come from, so that in its file a sample may stand before th
 from __future__ import annotations
 
 import struct
+import sys
 from collections import defaultdict
 from typing import Iterator, NamedTuple
 
 from elf_image import Range
 from perf_tables import BY_EXEC, COMM, MMAP2, SAMPLE, Mapping, mapping_of, record_places, thread_place
-from snapshot_file import MOST_BYTES
 
 FORK = 7
 FIRST_OF_PERF = 64
@@ -129,7 +129,7 @@ class Programs:
         return bytes(head) + records
 
 
-def parts_of(content: bytes, most: int = MOST_BYTES) -> list[Part]:
+def parts_of(content: bytes, most: int = sys.maxsize) -> list[Part]:
     """The parts of a file, that with the most samples first."""
     programs = Programs(content)
     found = [

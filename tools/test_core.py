@@ -347,6 +347,15 @@ class NamesTest(unittest.TestCase):
                 self.assertEqual([frame.note for frame in frames], ["", " (return address on the stack)"])
                 self.assertEqual([frame.address for frame in frames], [address, 0x401005])
 
+    def test_popped_registers(self) -> None:
+        """Where popped registers were kept the first frame is marked, and no other one at the same address."""
+        text = "\n#0  0x000000000040100f in a+0x100f{}\n#1  0x000000000040100f in a+0x100f\nend: no module holds 0x0000000000000008\n"
+        for mark in ("", " (popped registers kept)"):
+            with self.subTest(mark):
+                frames = list(frames_of(walk_of(text.format(mark)), ThreadStart(77, 0x40100F), set()))
+                self.assertEqual([frame.note for frame in frames], [mark, ""])
+                self.assertEqual([frame.address for frame in frames], [0x40100F, 0x40100E])
+
 
 if __name__ == "__main__":
     unittest.main()

@@ -139,6 +139,15 @@ class Reports(unittest.TestCase):
         lines = ["#0 0x510 in ??", "#1 0xc3 in ?? (return address on the stack)", "end: no module holds 0x00000000000000c2"]
         self.assertEqual(backtrace(guess, found, []), lines)
 
+    def test_popped_registers(self) -> None:
+        """The mark stays at the frame, also before its registers."""
+        report = "#0  0x0000000000000510 in a+0x510 (popped registers kept){}\n#1  0x00000000000000c3\nend: no module holds 0x00000000000000c2\n"
+        found = {"regions": [], "modules": [], "interrupted": True, "start": {}}
+        lines = ["#0 0x510 in ?? (popped registers kept)", "#1 0xc3 in ??", "end: no module holds 0x00000000000000c2"]
+        for registers in ("", " sp=0x10 rbx=0x0 r15=0xff"):
+            with self.subTest(registers):
+                self.assertEqual(backtrace(report.format(registers), found, []), lines)
+
     def test_modules_of_other_kinds(self) -> None:
         found = {"modules": [{"kind": "pe", "base": "0x1000", "size": "0x20", "path": "a.dll", "bias": "0x0"}]}
         self.assertEqual(modules_of(found), [Module("a.dll", 0, 0x1000, 0x1020, None)])
