@@ -63,6 +63,8 @@ impl<'a> Cursor<'a> {
     pub fn read_u8(&mut self) -> Result<u8, Error>
         ensures reads { GivesOr (λ x. x) result (number w8 (at self.old)) (at self.new) }
         ensures unchanged { OnErr result (at self.new ≡ at self.old) }
+        ensures passes { IfOk result (λ _.
+            length (at self.new).bytes < length (at self.old).bytes) }
     {
         if self.bytes.is_empty() {
             return Err(Error::UnexpectedEof);
@@ -81,6 +83,8 @@ impl<'a> Cursor<'a> {
     pub fn read_u16(&mut self) -> Result<u16, Error>
         ensures reads { GivesOr (λ x. x) result (number w16 (at self.old)) (at self.new) }
         ensures unchanged { OnErr result (at self.new ≡ at self.old) }
+        ensures passes { IfOk result (λ _.
+            length (at self.new).bytes < length (at self.old).bytes) }
     {
         if self.bytes.len() < 2 {
             return Err(Error::UnexpectedEof);

@@ -19,6 +19,7 @@ mod RunSteps
 mod SliceReading
 mod Standing
 mod Growing
+mod Learning
 mod LookedUp
 mod ByBytes
 mod Moved

@@ -1,5 +1,5 @@
 -- What turns make of a description's program that runs from body to body.
-use Rattle.std.proofs.Common.{◌≡◌, ℕ, ◌+◌, ◌-◌, ◌<◌, ◌≤◌, Bool, true, List, [], ◌∷◌, ◌++◌, length, map, get_or, Option, Some, None, Result, Ok, Err, refl, sym, ap, ◌∙◌, subst, arith, append_assoc, length-append}
+use Rattle.std.proofs.Common.{◌≡◌, ℕ, ◌+◌, ◌-◌, ◌%◌, ◌^◌, ◌<◌, ◌≤◌, Bool, true, List, [], ◌∷◌, ◌++◌, length, map, get_or, Option, Some, None, Result, Ok, Err, refl, sym, ap, ◌∙◌, subst, arith, append_assoc, length-append}
 use Rattle.std.specs.Prelude.{IfSome}
 use Rattle.std.specs.Option.{option_map}
 use Rattle.std.specs.declared.alloc.AllocError.{AllocError}
@@ -37,6 +37,10 @@ use Rattle.frame_rows.proofs.BodySteps.{at_longer, state_longer, within_longer}
 use Rattle.frame_rows.proofs.Moving.{movable_none}
 use Rattle.frame_rows.proofs.SliceReading.{none_left}
 use Rattle.frame_rows.proofs.StretchSteps.{begun, ends, further, leads_further, led_on}
+
+-- how far a location is from a start, by words
+pub far_from : (start there here : ℕ) → there ≡ here → start ≤ here → here < 2 ^ 64 → (there + (2 ^ 64 - start)) % 2 ^ 64 ≡ here - start
+far_from start there here same ahead below = ap (λ (n : ℕ). (n + (2 ^ 64 - start)) % 2 ^ 64) same ∙ omega arith
 
 -- the body at a place where a machine's row stands is what it ends with
 pub last_there : (bodies : List (Result RowValue Fault)) (place : ℕ) (m : Machine) (at : IsStateAt bodies place m.state) (start : ℕ) (run : RowInstructions) → Represents start m run → IsLast run (kept_answer (Ok at.cfa) m.state.rules m.state.saved_args_size)

@@ -2,7 +2,7 @@
 use Rattle.std.proofs.Common.{◌≡◌, ℕ, ◌+◌, ◌^◌, ◌<◌, ◌≤◌, Bool, true, false, List, [], ◌∷◌, Option, Some, None, Result, Ok, refl, sym, ap, subst, ◌∙◌, inl, arith}
 use Rattle.std.specs.Prelude.{is_some}
 use Rattle.unwind_definitions.specs.declared.error.Error.{Error as Fault}
-use Rattle.unwind_definitions.specs.Instructions.{Rule, Instruction, Nop, Remember, Restore, Advance, CfaOffset, Write}
+use Rattle.unwind_definitions.specs.Instructions.{Rule, Instruction, Nop, Remember, Restore, Advance, Cfa, CfaColumn, CfaOffset, Write}
 use Rattle.unwind_definitions.specs.Row.{RowInstructions}
 use Rattle.frame_rows.specs.BodySteps.{IsStateAt, IsMemoryAt, MakesBody}
 use Rattle.frame_rows.specs.RowValue.{RowValue}
@@ -54,6 +54,24 @@ module _ (bodies : List (Result RowValue Fault)) where
 
     pub stands_save : (q : ℕ) (rule : Rule) (new : Walker) → MakesBody bodies (Write q rule) s.place new.place → new.location ≡ s.location → new.remembered ≡ s.remembered → StandsAfter bodies start run (Write q rule) turn.Ran new
     stands_save q rule new makes here memory =
+        let made = makes.makes start m run rep st.state in
+        record {
+          machine = record m { state = made.0 };
+          moves = (tt, made.2, made.3);
+          stands = record { here = st.here ∙ sym here; state = made.1; remembered = subst (λ p. IsMemoryAt bodies p m.remembered) (sym memory) st.remembered };
+        }
+
+    pub stands_cfa : (q n : ℕ) (new : Walker) → MakesBody bodies (Cfa q n) s.place new.place → new.location ≡ s.location → new.remembered ≡ s.remembered → StandsAfter bodies start run (Cfa q n) turn.Ran new
+    stands_cfa q n new makes here memory =
+        let made = makes.makes start m run rep st.state in
+        record {
+          machine = record m { state = made.0 };
+          moves = (tt, made.2, made.3);
+          stands = record { here = st.here ∙ sym here; state = made.1; remembered = subst (λ p. IsMemoryAt bodies p m.remembered) (sym memory) st.remembered };
+        }
+
+    pub stands_column : (q : ℕ) (new : Walker) → MakesBody bodies (CfaColumn q) s.place new.place → new.location ≡ s.location → new.remembered ≡ s.remembered → StandsAfter bodies start run (CfaColumn q) turn.Ran new
+    stands_column q new makes here memory =
         let made = makes.makes start m run rep st.state in
         record {
           machine = record m { state = made.0 };

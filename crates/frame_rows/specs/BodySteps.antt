@@ -1,9 +1,9 @@
 -- What instructions make of bodies. No public clause cites this.
-use Rattle.std.specs.Prelude.{◌≡◌, ℕ, ◌<◌, List, length, Option, Some, None, Result, Ok}
+use Rattle.std.specs.Prelude.{◌≡◌, ℕ, ◌<◌, List, length, slice_index_or, Option, Some, None, Result, Ok}
 use Rattle.std.specs.List.{AllByRecursion}
 use Rattle.unwind_definitions.specs.declared.error.Error.{Error as Fault}
 use Rattle.unwind_definitions.specs.Instructions.{Instruction, Offset, Write, CfaOffset}
-use Rattle.unwind_definitions.specs.Row.{RowInstructions, fault_of}
+use Rattle.unwind_definitions.specs.Row.{ColumnAndOffset, RowInstructions, fault_of}
 use Rattle.frame_rows.specs.Bodies.{Says, kept_answer}
 use Rattle.frame_rows.specs.RowValue.{RowValue}
 use Rattle.frame_rows.specs.Running.{Represents, push}
@@ -30,6 +30,13 @@ pub record MakesBody (bodies : List (Result RowValue Fault)) (i : Instruction) (
   pub within : from < length bodies
   pub there : to < length bodies
   pub makes : (start : ℕ) (m : Machine) (run : RowInstructions) → Represents start m run → IsStateAt bodies from m.state → (t : RowState) × IsStateAt bodies to t × (fault_of start run i ≡ None) × Represents start (record m { state = t }) (push run i)
+
+-- the body at a place says what another one did, but for the CFA, which is a column and an offset
+pub record SaysWithCfa (old new : List (Result RowValue Fault)) (column offset place to : ℕ) : Type 0 where
+  pub row : RowValue
+  pub within : place < length old
+  pub was : (d : Result RowValue Fault) → slice_index_or old place d ≡ Ok row
+  pub says : Says new to (Ok (record { cfa = ColumnAndOffset column offset; rules = row.rules; saved_args_size = row.saved_args_size }))
 
 -- what the operands of two kinds of steps stand for
 abbrev pub offset_step : KnownStep → Instruction

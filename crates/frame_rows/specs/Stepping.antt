@@ -1,5 +1,5 @@
 -- Running a program from body to body. No public clause cites this.
-use Rattle.std.specs.Prelude.{◌≡◌, ℕ, ◌+◌, ◌<◌, ◌≤◌, List, length, Option, Some, None, Result, IfSome}
+use Rattle.std.specs.Prelude.{◌≡◌, ℕ, ◌+◌, ◌*◌, ◌^◌, ◌<◌, ◌≤◌, List, length, Option, Some, None, Result, IfSome}
 use Rattle.unwind_definitions.specs.declared.error.Error.{Error as Fault}
 use Rattle.unwind_definitions.specs.Input.{Input}
 use Rattle.unwind_definitions.specs.Instructions.{Coding, Instruction, Program, program_from}
@@ -23,6 +23,10 @@ pub record StandsFor (bodies : List (Result RowValue Fault)) (s : Walker) (m : M
 -- these places are among those of all bodies
 abbrev pub IsWithin : List (Result RowValue Fault) → Walker → Type 0
 IsWithin bodies s = (s.place < length bodies) × IfSome s.remembered (λ place. place < length bodies)
+
+-- the rules of the rows that its bytes may still make can be counted, of each at most 32
+abbrev pub HasRoom : Walker → Type 0
+HasRoom s = s.rule_count + 32 * length s.rest.now < 2 ^ 63
 
 -- an instruction moves a machine for which it stands to one for which it stands then
 pub record StandsAfter (bodies : List (Result RowValue Fault)) (start : ℕ) (run : RowInstructions) (i : Instruction) (turn : Turn) (new : Walker) : Type 0 where

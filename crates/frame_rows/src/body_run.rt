@@ -1,6 +1,6 @@
 //! Running a frame program from one body of a row to another. DWARF 5 section 6.4.3.
 
-ghost use Rattle.std.specs.Prelude.{[], ◌≡◌, ◌<◌, ◌≤◌, ℕ, IfOk, IfSome, None, Ok, length, take};
+ghost use Rattle.std.specs.Prelude.{[], ◌≡◌, ◌<◌, ◌≤◌, ◌^◌, ℕ, IfOk, IfSome, None, Ok, false, length, take, true};
 ghost use Rattle.std.specs.List.{AllByRecursion};
 ghost use Rattle.unwind_definitions.specs.Instructions.{Program};
 ghost use Rattle.unwind_definitions.specs.Row.{RowInstructions};
@@ -11,20 +11,20 @@ ghost use Rattle.frame_rows.specs.BodyRuns.{IsRunning, RunsTo};
 ghost use Rattle.frame_rows.specs.KeptRows.{KeptRows};
 ghost use Rattle.frame_rows.specs.Running.{Represents, outcome};
 ghost use Rattle.frame_rows.specs.TableRows.{HasBody};
-ghost use Rattle.frame_rows.specs.Stepping.{IsLeft, IsWithin, StandsAfter, StandsFor, TakesTurn};
+ghost use Rattle.frame_rows.specs.Stepping.{HasRoom, IsLeft, IsWithin, StandsAfter, StandsFor, TakesTurn};
 ghost use Rattle.frame_rows.specs.declared.machine.Machine.{Machine};
+ghost use Rattle.frame_rows.specs.declared.stretch.Turn.{Turn};
 
 use crate::coding::Coding;
-use crate::instruction::{ShortInstruction, read_short};
+use crate::instruction::{
+    CallFrameInstruction, ShortInstruction, read_instruction, read_short,
+};
 use crate::row_bodies::KnownBodies;
 use crate::row_steps::SteppedBodies;
 use crate::row_table::TableRow;
 use crate::stretch::Turn;
 use encoded_pointers::Cursor;
 use std::alloc::AllocError;
-
-// How many rules a table holds at most.
-const MOST_RULES: u64 = 0xffff_ffff;
 
 /// A program that runs, where the row so far and the remembered one are bodies that stand in a list.
 #[derive(Clone, Copy)]
@@ -43,6 +43,7 @@ impl<'a> BodyRun<'a> {
     /// where it isn't, or can't be read: then it isn't read.
     #[inline(always)]
     pub(crate) fn turn(&mut self, bodies: &SteppedBodies<'a>, coding: Coding) -> Option<Turn>
+        requires { coding.code_factor < 2 ^ 32 }
         ensures turns { IfSome result (λ turn. (start : ℕ) (m : Machine) (run : RowInstructions)
             (q : Program) → Represents start m run → StandsFor bodies.now self.old m →
             IsLeft (coding_in coding.entry) self.old.rest.now q →
@@ -56,9 +57,6 @@ impl<'a> BodyRun<'a> {
         let mut input = Cursor::new(self.rest, 0);
         let short = read_short(&mut input, coding)?;
         let rest = input.bytes();
-        if rest.len() >= self.rest.len() {
-            return None;
-        }
         let turn = self.run(bodies, short)?;
         self.rest = rest;
         Some(turn)
@@ -79,10 +77,10 @@ impl<'a> BodyRun<'a> {
         match short {
             ShortInstruction::Nop => Some(Turn::Ran),
             ShortInstruction::Advance(delta) => {
-                if delta == 0 || delta > u64::MAX - self.location {
+                if delta == 0 {
                     return None;
                 }
-                Some(Turn::LeadsOn(self.location + delta))
+                Some(Turn::LeadsOn(self.location.checked_add(delta)?))
             }
             ShortInstruction::Save { register, offset } => {
                 self.place = bodies.with_save(self.place, register, offset)?;
@@ -118,33 +116,102 @@ pub(crate) enum RunEnd {
     Stopped,
     /// No instruction is left.
     Ended,
-    /// There are more rules than a table holds.
+    /// An instruction makes no body.
     GivenUp,
 }
 
 impl<'a> BodyRun<'a> {
-    // Lets it be known what the next instruction makes. `false` where it makes no body.
+    // Runs the next instruction where it makes a body, which is known from then on. `false` where it
+    // makes none: then it isn't read.
     #[inline(never)]
     fn learn(
-        &self,
+        &mut self,
         bodies: &mut SteppedBodies<'a>,
         known: &mut KnownBodies,
         coding: Coding,
     ) -> Result<bool, AllocError>
-        requires { self.now.place < length bodies.old }
-        ensures { Grows bodies.old bodies.new }
+        requires within { IsWithin bodies.old self.old }
+        requires factor { coding.code_factor < 2 ^ 32 }
+        ensures grows { Grows bodies.old bodies.new }
+        ensures turns { result ≡ Ok true → (start : ℕ) (m : Machine) (run : RowInstructions)
+            (q : Program) → Represents start m run → StandsFor bodies.new self.old m →
+            IsLeft (coding_in coding.entry) self.old.rest.now q →
+            TakesTurn bodies.new (coding_in coding.entry) start run q Turn.Ran self.new }
+        ensures within { IfOk result (λ _. IsWithin bodies.new self.new) }
+        ensures fewer { length self.new.rest.now ≤ length self.old.rest.now }
+        ensures location { self.new.location ≡ self.old.location }
+        ensures rules { self.new.rule_count ≡ self.old.rule_count }
     {
         let mut input = Cursor::new(self.rest, 0);
-        let made = match read_short(&mut input, coding) {
+        match read_short(&mut input, coding) {
             Some(ShortInstruction::Save { register, offset }) => {
-                bodies.make_save(known, self.place, register, offset)?
+                let made = bodies.make_save(known, self.place, register, offset)?;
+                Ok(self.move_to(made, input.bytes()))
             }
             Some(ShortInstruction::DefineCfaOffset(offset)) => {
-                bodies.make_offset(known, self.place, offset)?
+                let made = bodies.make_offset(known, self.place, offset)?;
+                Ok(self.move_to(made, input.bytes()))
             }
-            _ => None,
-        };
-        Ok(made.is_some())
+            Some(_) => Ok(false),
+            None => self.learn_cfa(bodies, known, coding),
+        }
+    }
+
+    // Goes on to a body, if there is one, with these bytes left. It answers whether there is.
+    fn move_to(&mut self, made: Option<usize>, rest: &'a [u8]) -> bool
+        ensures moves { IfSome made (λ place. (self.new.place ≡ place) ×
+            (self.new.rest.now ≡ rest.now)) }
+        ensures stays { made ≡ None → (result ≡ false) × (self.new ≡ self.old) }
+        ensures remembered { self.new.remembered ≡ self.old.remembered }
+        ensures location { self.new.location ≡ self.old.location }
+        ensures rules { self.new.rule_count ≡ self.old.rule_count }
+    {
+        match made {
+            Some(place) => {
+                self.place = place;
+                self.rest = rest;
+                true
+            }
+            None => false,
+        }
+    }
+
+    // The same of an instruction that defines the CFA's register.
+    #[inline(never)]
+    fn learn_cfa(
+        &mut self,
+        bodies: &mut SteppedBodies<'a>,
+        known: &mut KnownBodies,
+        coding: Coding,
+    ) -> Result<bool, AllocError>
+        requires within { IsWithin bodies.old self.old }
+        ensures grows { Grows bodies.old bodies.new }
+        ensures turns { result ≡ Ok true → (start : ℕ) (m : Machine) (run : RowInstructions)
+            (q : Program) → Represents start m run → StandsFor bodies.new self.old m →
+            IsLeft (coding_in coding.entry) self.old.rest.now q →
+            TakesTurn bodies.new (coding_in coding.entry) start run q Turn.Ran self.new }
+        ensures within { IfOk result (λ _. IsWithin bodies.new self.new) }
+        ensures fewer { length self.new.rest.now ≤ length self.old.rest.now }
+        ensures location { self.new.location ≡ self.old.location }
+        ensures rules { self.new.rule_count ≡ self.old.rule_count }
+    {
+        let mut input = Cursor::new(self.rest, 0);
+        let read = read_instruction(&mut input, coding);
+        let rest = input.bytes();
+        if rest.len() >= self.rest.len() {
+            return Ok(false);
+        }
+        match read {
+            Ok(CallFrameInstruction::DefineCfa { register, offset }) => {
+                let made = bodies.make_cfa(known, self.place, register, offset)?;
+                Ok(self.move_to(made, rest))
+            }
+            Ok(CallFrameInstruction::DefineCfaRegister(register)) => {
+                let made = bodies.make_cfa_register(known, self.place, register)?;
+                Ok(self.move_to(made, rest))
+            }
+            _ => Ok(false),
+        }
     }
 }
 
@@ -158,8 +225,11 @@ fn run_known<'a>(
     start: u64,
     end: u64,
 ) -> Result<RunEnd, AllocError>
-    requires { IsWithin bodies.now run.old }
+    requires within { IsWithin bodies.now run.old }
+    requires factor { coding.code_factor < 2 ^ 32 }
+    requires room { HasRoom run.old }
     ensures within { IfOk result (λ _. IsWithin bodies.now run.new) }
+    ensures room { IfOk result (λ _. HasRoom run.new) }
     ensures bodied { AllByRecursion (HasBody bodies.now) rows.old.items →
         AllByRecursion (HasBody bodies.now) rows.new.items }
     ensures longer { length rows.old.items ≤ length rows.new.items }
@@ -176,12 +246,8 @@ fn run_known<'a>(
         match now.turn(bodies, coding) {
             Some(Turn::Ran) => {}
             Some(Turn::LeadsOn(next)) => {
-                if now.rule_count > MOST_RULES {
-                    *run = now;
-                    return Ok(RunEnd::GivenUp);
-                }
                 rows.push(TableRow {
-                    distance: now.location.saturating_sub(start),
+                    distance: now.location.wrapping_sub(start),
                     body: now.place,
                 })?;
                 now.rule_count += bodies.rule_count(now.place) as u64;
@@ -214,6 +280,7 @@ fn finish<'a>(
 ) -> Result<RunEnd, AllocError>
     requires within { IsWithin bodies.now run.old }
     requires none { run.old.rest.now ≡ [] }
+    requires room { HasRoom run.old }
     ensures bodied { AllByRecursion (HasBody bodies.now) rows.old.items →
         AllByRecursion (HasBody bodies.now) rows.new.items }
     ensures longer { length rows.old.items ≤ length rows.new.items }
@@ -225,11 +292,8 @@ fn finish<'a>(
         IsRunning start end common own old coding bodies.now rows.old.items run.old →
         RunsTo start end common own old coding bodies.now result rows.new.items run.new }
 {
-    if run.rule_count > MOST_RULES {
-        return Ok(RunEnd::GivenUp);
-    }
     rows.push(TableRow {
-        distance: run.location.saturating_sub(start),
+        distance: run.location.wrapping_sub(start),
         body: run.place,
     })?;
     run.rule_count += bodies.rule_count(run.place) as u64;
@@ -250,6 +314,8 @@ pub(crate) fn run_bodies<'a>(
 ) -> Result<RunEnd, AllocError>
     requires within { IsWithin bodies.old run.old }
     requires bodied { AllByRecursion (HasBody bodies.old) rows.old.items }
+    requires factor { coding.code_factor < 2 ^ 32 }
+    requires room { HasRoom run.old }
     ensures grows { Grows bodies.old bodies.new }
     ensures bodied { AllByRecursion (HasBody bodies.new) rows.new.items }
     ensures longer { length rows.old.items ≤ length rows.new.items }

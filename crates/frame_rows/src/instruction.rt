@@ -1,6 +1,7 @@
 //! The instructions of frame programs. DWARF 5 sections 6.4.2 and 7.24.
 
-ghost use Rattle.std.specs.Prelude.{◌≡◌, ◌*◌, IfSome, Ok};
+ghost use Rattle.std.specs.Prelude.{◌≡◌, ◌*◌, ◌<◌, ◌^◌, IfSome, Ok, length};
+ghost use Rattle.unwind_definitions.specs.Input.{uleb};
 ghost use Rattle.unwind_definitions.specs.Instructions.{Coding as Operands, instruction};
 ghost use Rattle.unwind_definitions.specs.Instructions.{Advance, Write};
 ghost use Rattle.unwind_definitions.specs.Pointers.{direct};
@@ -310,44 +311,73 @@ pub(crate) fn read_instruction<'a>(
     }
 }
 
+// What an advance by so many code alignment units adds to the location.
+#[inline(always)]
+fn delta_of(units: u16, coding: Coding) -> u64
+    requires { coding.code_factor < 2 ^ 32 }
+    ensures { result ≡ units * coding.entry.code_factor }
+{
+    u64::from(units) * u64::from(coding.code_factor as u32)
+}
+
+// An unsigned LEB128 number of at most two bytes. Else the cursor is unspecified.
+#[inline(always)]
+fn read_few(input: &mut Cursor<'_>) -> Option<u64>
+    ensures reads { IfSome result (λ n. uleb (at input.old) ≡ Ok (n, at input.new)) }
+    ensures passes { IfSome result (λ _.
+        length (at input.new).bytes < length (at input.old).bytes) }
+{
+    let byte = input.read_u8().ok()?;
+    if byte < 128 {
+        return Some(byte as u64);
+    }
+    let high = input.read_u8().ok()?;
+    if high < 128 {
+        Some((byte - 128) as u64 + 128 * high as u64)
+    } else {
+        None
+    }
+}
+
 /// The next instruction, where it is one of those that most programs consist of: `DW_CFA_nop`,
 /// `DW_CFA_def_cfa_offset`, `DW_CFA_offset`, `DW_CFA_remember_state`, `DW_CFA_restore_state`, or an
-/// advance by a word whose operand has two bytes at most. Else the cursor is unspecified.
+/// advance by a word whose operand has two bytes at most, and where no number takes more than two
+/// bytes. Else the cursor is unspecified.
+// Those that come most often are told apart first.
 #[tactic(auto, unfolding(crate::specs::InstructionViews::operation_read, crate::specs::InstructionViews::cfa_read, crate::specs::InstructionViews::offset_read, crate::specs::InstructionViews::rule_read, crate::specs::InstructionViews::state_read, unwind_definitions::specs::Instructions::instruction_of))]
 #[inline(always)]
 pub(crate) fn read_short(input: &mut Cursor<'_>, coding: Coding) -> Option<ShortInstruction>
-    ensures { IfSome result (λ short. instruction (coding_in coding.entry) (at input.old) ≡
+    requires { coding.code_factor < 2 ^ 32 }
+    ensures reads { IfSome result (λ short. instruction (coding_in coding.entry) (at input.old) ≡
         Ok (short_meaning short, at input.new)) }
+    ensures passes { IfSome result (λ _.
+        length (at input.new).bytes < length (at input.old).bytes) }
 {
     let byte = input.read_u8().ok()?;
     let low = byte % 64;
-    match byte / 64 {
-        DW_CFA_ADVANCE_LOC => {
-            let delta = u64::from(low).checked_mul(coding.code_factor)?;
-            Some(ShortInstruction::Advance(delta))
+    if byte / 64 == DW_CFA_ADVANCE_LOC {
+        return Some(ShortInstruction::Advance(delta_of(low as u16, coding)));
+    }
+    if byte == DW_CFA_DEF_CFA_OFFSET {
+        return Some(ShortInstruction::DefineCfaOffset(read_few(input)?));
+    }
+    if byte / 64 == DW_CFA_OFFSET {
+        let register = Register(low as u16);
+        let offset = read_few(input)?.wrapping_mul(coding.data_factor);
+        return Some(ShortInstruction::Save { register, offset });
+    }
+    match byte {
+        DW_CFA_NOP => Some(ShortInstruction::Nop),
+        DW_CFA_REMEMBER_STATE => Some(ShortInstruction::RememberState),
+        DW_CFA_RESTORE_STATE => Some(ShortInstruction::RestoreState),
+        DW_CFA_ADVANCE_LOC1 => {
+            let units = input.read_u8().ok()?;
+            Some(ShortInstruction::Advance(delta_of(units as u16, coding)))
         }
-        DW_CFA_OFFSET => {
-            let register = Register(low as u16);
-            let offset = read_offset(input, coding).ok()?;
-            Some(ShortInstruction::Save { register, offset })
+        DW_CFA_ADVANCE_LOC2 => {
+            let units = input.read_u16().ok()?;
+            Some(ShortInstruction::Advance(delta_of(units, coding)))
         }
-        0 => match low {
-            DW_CFA_DEF_CFA_OFFSET => {
-                Some(ShortInstruction::DefineCfaOffset(input.read_uleb128().ok()?))
-            }
-            DW_CFA_NOP => Some(ShortInstruction::Nop),
-            DW_CFA_REMEMBER_STATE => Some(ShortInstruction::RememberState),
-            DW_CFA_RESTORE_STATE => Some(ShortInstruction::RestoreState),
-            DW_CFA_ADVANCE_LOC1 => {
-                let delta = u64::from(input.read_u8().ok()?);
-                Some(ShortInstruction::Advance(delta.checked_mul(coding.code_factor)?))
-            }
-            DW_CFA_ADVANCE_LOC2 => {
-                let delta = u64::from(input.read_u16().ok()?);
-                Some(ShortInstruction::Advance(delta.checked_mul(coding.code_factor)?))
-            }
-            _ => None,
-        },
         _ => None,
     }
 }

@@ -80,6 +80,27 @@ impl KnownSteps {
         }
     }
 
+    /// The same in the slot beside: where two steps have one number, the second stands there.
+    pub(crate) fn find_beside(
+        &self,
+        from: usize,
+        register: Register,
+        offset: u64,
+    ) -> Option<&KnownStep>
+        ensures { IfSome result (λ step.
+            FindsStep self.now from register.0 offset step.now) }
+    {
+        let highest = self.slots.len().wrapping_sub(1);
+        let index = (number_of(from, register, offset) & highest) ^ 1;
+        if index >= self.slots.len() {
+            return None;
+        }
+        match &self.slots[index] {
+            Some(step) if is_for(step, from, register, offset) => Some(step),
+            _ => None,
+        }
+    }
+
     /// Notes what an instruction makes of a body.
     ///
     /// # Errors
@@ -89,13 +110,22 @@ impl KnownSteps {
         ensures { NotesStep self.old step self.new }
     {
         self.make_room()?;
-        let highest = self.slots.len().wrapping_sub(1);
-        let index = number_of(step.from, step.register, step.offset) & highest;
+        let index = self.place_for(&step);
         if index < self.slots.len() {
             self.slots[index] = Some(step);
             self.noted = self.noted.saturating_add(1);
         }
         Ok(())
+    }
+
+    // The slot of a step's number, or the one beside where that alone is free.
+    fn place_for(&self, step: &KnownStep) -> usize {
+        let highest = self.slots.len().wrapping_sub(1);
+        let index = number_of(step.from, step.register, step.offset) & highest;
+        match (self.slots.get(index), self.slots.get(index ^ 1)) {
+            (Some(Some(_)), Some(None)) => index ^ 1,
+            _ => index,
+        }
     }
 
     // Makes more room where as many were noted as there is room for. Those so far are forgotten.

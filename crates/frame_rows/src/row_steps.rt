@@ -3,9 +3,9 @@
 ghost use Rattle.std.specs.Prelude.{[], ◌≡◌, ◌<◌, ◌≤◌, IfOk, IfSome, List, Result, length, map};
 ghost use Rattle.std.specs.Prelude.{slice_index_or};
 ghost use Rattle.unwind_definitions.specs.declared.error.Error.{Error as Fault};
-ghost use Rattle.unwind_definitions.specs.Instructions.{CfaOffset, Offset, Write};
+ghost use Rattle.unwind_definitions.specs.Instructions.{Cfa, CfaColumn, CfaOffset, Offset, Write};
 ghost use Rattle.frame_rows.specs.Bodies.{Grows, Says, kept_answer};
-ghost use Rattle.frame_rows.specs.BodySteps.{MakesBody};
+ghost use Rattle.frame_rows.specs.BodySteps.{MakesBody, SaysWithCfa};
 ghost use Rattle.frame_rows.specs.KeptRows.{Ascends, answer_rule_count};
 ghost use Rattle.frame_rows.specs.RowValue.{RowValue};
 ghost use Rattle.frame_rows.specs.Rules.{entry_of, AscendsFrom};
@@ -146,6 +146,9 @@ impl<'a> SteppedBodies<'a> {
         ensures makes { IfOk result (λ made. IfSome made (λ to.
             MakesBody self.new (CfaOffset offset) place to)) }
     {
+        if let Some(step) = self.offsets.find_beside(place, Register(0), offset) {
+            return Ok(Some(step.to));
+        }
         let Ok(row) = self.bodies.get(place) else {
             return Ok(None);
         };
@@ -185,6 +188,9 @@ impl<'a> SteppedBodies<'a> {
         ensures makes { IfOk result (λ made. IfSome made (λ to.
             MakesBody self.new (Write register.0 (Offset offset)) place to)) }
     {
+        if let Some(step) = self.saves.find_beside(place, register, offset) {
+            return Ok(Some(step.to));
+        }
         let Ok(row) = self.bodies.get(place) else {
             return Ok(None);
         };
@@ -203,6 +209,81 @@ impl<'a> SteppedBodies<'a> {
             offset,
             to,
         })?;
+        Ok(Some(to))
+    }
+
+    /// Where the body stands that another CFA makes of a body. `None` where it makes none.
+    #[inline(never)]
+    pub(crate) fn make_cfa(
+        &mut self,
+        known: &mut KnownBodies,
+        place: usize,
+        register: Register,
+        offset: u64,
+    ) -> Result<Option<usize>, AllocError>
+        requires { place < length self.old }
+        ensures grows { Grows self.old self.new }
+        ensures makes { IfOk result (λ made. IfSome made (λ to.
+            MakesBody self.new (Cfa register.0 offset) place to)) }
+    {
+        let Some(to) = self.with_cfa(known, place, register, offset)? else {
+            return Ok(None);
+        };
+        Ok(Some(to))
+    }
+
+    /// The same of another register of the CFA.
+    #[inline(never)]
+    pub(crate) fn make_cfa_register(
+        &mut self,
+        known: &mut KnownBodies,
+        place: usize,
+        register: Register,
+    ) -> Result<Option<usize>, AllocError>
+        requires { place < length self.old }
+        ensures grows { Grows self.old self.new }
+        ensures makes { IfOk result (λ made. IfSome made (λ to.
+            MakesBody self.new (CfaColumn register.0) place to)) }
+    {
+        let Ok(row) = self.bodies.get(place) else {
+            return Ok(None);
+        };
+        let CfaRule::RegisterAndOffset {
+            register: _,
+            offset,
+        } = row.cfa()
+        else {
+            return Ok(None);
+        };
+        let Some(to) = self.with_cfa(known, place, register, offset)? else {
+            return Ok(None);
+        };
+        Ok(Some(to))
+    }
+
+    // Where the body stands that says what another one does, but for the CFA. `None` where that one is
+    // a fault.
+    fn with_cfa(
+        &mut self,
+        known: &mut KnownBodies,
+        place: usize,
+        register: Register,
+        offset: u64,
+    ) -> Result<Option<usize>, AllocError>
+        requires { place < length self.old }
+        ensures grows { Grows self.old self.new }
+        ensures says { IfOk result (λ made. IfSome made (λ to.
+            SaysWithCfa self.old self.new register.0 offset place to)) }
+    {
+        let Ok(row) = self.bodies.get(place) else {
+            return Ok(None);
+        };
+        let size = row.saved_args_size();
+        self.room.put(row.entries());
+        let cfa = CfaRule::RegisterAndOffset { register, offset };
+        let to = self
+            .bodies
+            .keep(known, Ok(cfa), self.room.entries(), size, Some(place))?;
         Ok(Some(to))
     }
 }

@@ -203,7 +203,8 @@ impl<'a> RowTable<'a> {
 
     /// Adds the rows of a description whose program runs from body to body, from the row that its
     /// common information entry's ended with. None is added where it doesn't run so, or where they
-    /// would be too many.
+    /// would be too many, or the code alignment factor or the
+    /// program's length has more than 32 bits.
     #[inline(never)]
     pub(crate) fn add_run(
         &mut self,
@@ -224,6 +225,9 @@ impl<'a> RowTable<'a> {
             IsRowOf row.entry (from_common common.instructions) →
             AddsRun limits start end common own self.old result self.new }
     {
+        if coding.code_factor >= 0x1_0000_0000 || own.len() >= 0x1_0000_0000 {
+            return Ok(Added::Nothing);
+        }
         let before = self.rows.len();
         let place = self.bodies.keep(
             known,

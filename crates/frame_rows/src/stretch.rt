@@ -77,7 +77,7 @@ impl<'a> Instructions<'a> {
         ensures none { result ≡ None → self.new ≡ self.old }
         ensures moving { self.new.sets_location ≡ self.old.sets_location }
     {
-        if self.left == 0 {
+        if self.left == 0 || coding.code_factor >= 0x1_0000_0000 {
             return None;
         }
         let mut rest = self.input;

@@ -7,7 +7,7 @@ use Rattle.frame_rows.specs.BodyRuns.{IsRunning}
 use Rattle.frame_rows.specs.InstructionViews.{coding_in}
 use Rattle.frame_rows.specs.KeptRows.{KeptRows}
 use Rattle.frame_rows.specs.Running.{outcome}
-use Rattle.frame_rows.specs.Stepping.{IsWithin}
+use Rattle.frame_rows.specs.Stepping.{HasRoom, IsWithin}
 use Rattle.frame_rows.specs.TableRows.{HasBody}
 use Rattle.frame_rows.proofs.body_run.run_bodies.Given as goal
 
@@ -20,3 +20,4 @@ invariant-loop-turn l = Grows l.fn.bodies l.bodies
     × ((n : ℕ) → n ≤ length l.fn.rows.items → take n l.rows.items ≡ take n l.fn.rows.items)
     × ((common own : Program) (old : KeptRows) (first : RowInstructions) → outcome 0 None (from_common []) common ≡ Ok first →
     IsRunning l.start l.end common own old (coding_in l.coding) l.fn.bodies l.fn.rows.items l.fn.run → IsRunning l.start l.end common own old (coding_in l.coding) l.bodies l.rows.items l.run)
+    × HasRoom l.run
