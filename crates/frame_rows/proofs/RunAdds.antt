@@ -2,12 +2,13 @@
 use Rattle.std.proofs.Common.{◌≡◌, ℕ, ◌+◌, ◌-◌, ◌<◌, ◌≤◌, List, [], ◌∷◌, ◌++◌, length, map, take, drop, Option, Some, None, Result, Ok, Err, refl, sym, ap, ◌∙◌, subst, arith, length-append}
 use Rattle.std.specs.Option.{option_map}
 use Rattle.std.specs.List.{AllByRecursion}
-use Rattle.std.proofs.lemmas.List.{length-map, map-append, take-append-drop}
+use Rattle.std.specs.Option.{unwrap_or}
+use Rattle.std.proofs.lemmas.List.{append-nil, length-map, map-append, take-append-drop}
 use Rattle.std.proofs.Math.Seq.{take-length}
 use Rattle.unwind_definitions.specs.declared.error.Error.{Error as Fault}
 use Rattle.unwind_definitions.specs.Input.{Input}
-use Rattle.unwind_definitions.specs.Instructions.{Coding, Program, program}
-use Rattle.unwind_definitions.specs.Row.{CfaRule, RowInstructions, from_common}
+use Rattle.unwind_definitions.specs.Instructions.{Coding, Instruction, Program, Rule, program}
+use Rattle.unwind_definitions.specs.Row.{CfaRule, RowInstructions, argument_size, arguments, cfa_of, cfa_rule, from_common, kept_instructions, last_said}
 use Rattle.frame_rows.specs.Adding.{IsAdding, IsAppended, IsKeptWhole}
 use Rattle.frame_rows.specs.Bodies.{Grows, Says}
 use Rattle.frame_rows.specs.BodyRuns.{IsRunning, limits_of, table_with}
@@ -15,8 +16,8 @@ use Rattle.frame_rows.specs.BodySteps.{IsStateAt}
 use Rattle.frame_rows.specs.KeptRows.{IsLonger, Kept, KeptRows}
 use Rattle.frame_rows.specs.RowValue.{RowValue}
 use Rattle.frame_rows.specs.Rows.{IsRowOf}
-use Rattle.frame_rows.specs.Rules.{cfa_meaning}
-use Rattle.frame_rows.specs.Running.{Represents, outcome}
+use Rattle.frame_rows.specs.Rules.{cfa_meaning, rule_in}
+use Rattle.frame_rows.specs.Running.{IsStateOf, Represents, outcome, whole}
 use Rattle.frame_rows.specs.TableRows.{HasBody, kept_in}
 use Rattle.frame_rows.specs.declared.body_run.BodyRun.{BodyRun as Walker}
 use Rattle.frame_rows.specs.declared.machine.Machine.{Machine}
@@ -40,6 +41,34 @@ coded (Some c) r is = (c, refl, some_same (cfa_meaning c) r is)
 
     some_same : (a b : CfaRule) → (let o : Option CfaRule = Some a in o) ≡ Some b → a ≡ b
     some_same a b same = cc
+
+-- a machine that begins a description's program where a common information entry's ended
+abbrev pub standing : ℕ → RowState → Machine
+standing start state = record { remembered = None; location = start; state = state; initial = state.rules; rules_of = None; remembered_rules_of = None }
+
+module _ (state : RowState) (common : Program) (is : IsStateOf state (whole common.instructions)) where
+  cfa_alone : cfa_rule (whole common.instructions) ≡ cfa_rule (from_common common.instructions)
+  cfa_alone = ap cfa_of (sym (append-nil (kept_instructions common.instructions)))
+
+  size_alone : argument_size (whole common.instructions) ≡ argument_size (from_common common.instructions)
+  size_alone = ap (λ (is : List Instruction). unwrap_or (last_said arguments is) 0) (sym (append-nil (kept_instructions common.instructions)))
+
+  pub stands_begun : (start : ℕ) → Represents start (standing start state) (from_common common.instructions)
+  stands_begun start = record {
+    here = refl;
+    state = record { cfa = is.cfa ∙ cfa_alone; rules = is.rules; arguments = is.arguments ∙ size_alone };
+    opened = refl;
+    remembered = closed_at_start;
+    initial = is.rules;
+  }
+
+  -- a row that says what the state does is what the entry's program ended with
+  pub row_begun : (row : RowValue) → option_map cfa_meaning state.cfa ≡ Some row.cfa → row.rules ≡ state.rules → row.saved_args_size ≡ state.saved_args_size → IsRowOf row (from_common common.instructions)
+  row_begun row cfa rules size = record {
+    cfa = sym cfa_alone ∙ sym is.cfa ∙ cfa;
+    rules = λ c. ap (λ (es : List (ℕ × Rule)). rule_in es c) rules ∙ is.rules c;
+    arguments = size ∙ is.arguments ∙ size_alone;
+  }
 
 module _ (old new : List (Result RowValue Fault)) (g : Grows old new) (rows : List TableRow) (all : AllByRecursion (HasBody old) rows) (row_count rule_count : ℕ) where
   abbrev pub before : KeptRows

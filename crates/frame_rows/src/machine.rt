@@ -37,6 +37,20 @@ impl<'a> RowState<'a> {
         }
     }
 
+    /// The row, lent, where it has a CFA.
+    pub(crate) fn row(&self) -> Option<RowRef<'_, 'a>>
+        ensures { IfSome result (λ row. (option_map cfa_meaning self.now.cfa ≡ Some row.cfa) ×
+            (row.rules ≡ self.now.rules) ×
+            (row.saved_args_size ≡ self.now.saved_args_size)) }
+    {
+        let cfa = self.cfa?;
+        Some(RowRef::new(
+            cfa,
+            self.rules.entries(),
+            self.saved_args_size,
+        ))
+    }
+
     /// Makes it the same as another.
     pub(crate) fn assign(&mut self, other: &RowState<'a>)
         ensures { self.new ≡ other.now }

@@ -225,7 +225,8 @@ impl<'a> RowTable<'a> {
             IsRowOf row.entry (from_common common.instructions) →
             AddsRun limits start end common own self.old result self.new }
     {
-        if coding.code_factor >= 0x1_0000_0000 || own.len() >= 0x1_0000_0000 {
+        let count = own.len();
+        if coding.code_factor >= 0x1_0000_0000 || count >= 0x1_0000_0000 {
             return Ok(Added::Nothing);
         }
         let before = self.rows.len();

@@ -193,10 +193,37 @@ impl<'a> RowTableBuilder<'a> {
         ensures before { before_last self.new.begun ≡ before_last self.old.begun }
         ensures grows { IsLonger self.old.table.rows self.new.table.rows }
     {
-        self.machine.begin_after(&self.begun.last().state, start);
         if let Some(rows) = self.add_run(own, coding, start, end)? {
             return Ok(Some(rows));
         }
+        self.add_slowly(own, coding, start, end)
+    }
+
+    // The same, by a machine.
+    #[inline(never)]
+    fn add_slowly(
+        &mut self,
+        own: Cursor<'a>,
+        coding: Coding,
+        start: u64,
+        end: u64,
+    ) -> Result<Option<RowRange>, AllocError>
+        requires { start < end }
+        ensures rows { (common : Program) →
+            IsEndOf (last self.old.begun).state None common →
+            Adds self.old.limits start end common (program (coding_in coding.entry) (at own.entry))
+            self.old.table result self.new.table }
+        ensures limits { self.new.limits ≡ self.old.limits }
+        ensures state { (last self.new.begun).state ≡ (last self.old.begun).state }
+        ensures fault { (last self.new.begun).fault ≡ (last self.old.begun).fault }
+        ensures known { (common : Program) →
+            IsEndOf (last self.old.begun).state None common →
+            AreKnown common self.old.table.rows (last self.old.begun).known →
+            AreKnown common self.new.table.rows (last self.new.begun).known }
+        ensures before { before_last self.new.begun ≡ before_last self.old.begun }
+        ensures grows { IsLonger self.old.table.rows self.new.table.rows }
+    {
+        self.machine.begin_after(&self.begun.last().state, start);
         self.add_rows(own, coding, start, end)
     }
 
@@ -210,25 +237,22 @@ impl<'a> RowTableBuilder<'a> {
         end: u64,
     ) -> Result<Option<RowRange>, AllocError>
         requires { start < end }
-        ensures rows { (common : Program) (run : RowInstructions) →
-            outcome 0 None (from_common []) common ≡ Ok run →
-            Represents start self.old.machine (from_common common.instructions) →
-            AddsOrNot self.old.limits start end common
+        ensures rows { (common : Program) →
+            IsEndOf (last self.old.begun).state None common → AddsOrNot self.old.limits start end common
             (program (coding_in coding.entry) (at own.entry)) self.old.table result self.new.table }
         ensures machine { self.new.machine ≡ self.old.machine }
         ensures limits { self.new.limits ≡ self.old.limits }
         ensures state { (last self.new.begun).state ≡ (last self.old.begun).state }
         ensures fault { (last self.new.begun).fault ≡ (last self.old.begun).fault }
-        ensures known { (common : Program) (run : RowInstructions) →
-            outcome 0 None (from_common []) common ≡ Ok run →
-            Represents start self.old.machine (from_common common.instructions) →
+        ensures known { (common : Program) →
+            IsEndOf (last self.old.begun).state None common →
             AreKnown common self.old.table.rows (last self.old.begun).known →
             AreKnown common self.new.table.rows (last self.new.begun).known }
         ensures before { before_last self.new.begun ≡ before_last self.old.begun }
         ensures grows { IsLonger self.old.table.rows self.new.table.rows }
     {
         let (first, first_rule) = (self.table.end(), self.table.rule_count());
-        let Ok(row) = self.machine.row() else {
+        let Some(row) = self.begun.last().state.row() else {
             return Ok(None);
         };
         let added = self
