@@ -16,9 +16,7 @@ ghost use Rattle.frame_rows.specs.declared.machine.Machine.{Machine};
 ghost use Rattle.frame_rows.specs.declared.stretch.Turn.{Turn};
 
 use crate::coding::Coding;
-use crate::instruction::{
-    CallFrameInstruction, ShortInstruction, read_instruction, read_short,
-};
+use crate::instruction::{CallFrameInstruction, ShortInstruction, read_instruction, read_short};
 use crate::row_bodies::KnownBodies;
 use crate::row_steps::SteppedBodies;
 use crate::row_table::TableRow;

@@ -11,7 +11,7 @@ use unwind_arch::Register;
 // digits name a slot.
 const FIRST: usize = 32;
 
-const MOST: usize = 1024;
+const MOST: usize = 2048;
 
 // 2^64 by the golden ratio: each bit of a word has its part in the high bits of its product with this.
 const SPREAD: u64 = 0x9e37_79b9_7f4a_7c15;

@@ -44,11 +44,7 @@ impl<'a> RowState<'a> {
             (row.saved_args_size ≡ self.now.saved_args_size)) }
     {
         let cfa = self.cfa?;
-        Some(RowRef::new(
-            cfa,
-            self.rules.entries(),
-            self.saved_args_size,
-        ))
+        Some(RowRef::new(cfa, self.rules.entries(), self.saved_args_size))
     }
 
     /// Makes it the same as another.
