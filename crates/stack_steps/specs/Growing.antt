@@ -12,6 +12,11 @@ Grows old new = (a : ℕ) → table_at old a ≢ [] → table_at new a ≡ table
 abbrev pub over_image : SpaceValue → List Span → SpaceValue
 over_image space image = record space { image = image }
 
+-- a space, seen over an image that maps what its own does
+pub record IsSeenOver (space seen : SpaceValue) : Type 0 where
+  pub same : seen ≡ over_image space seen.image
+  pub grows : Grows space.image seen.image
+
 -- each module has an index
 abbrev pub all_prepared : List Added → Bool
 all_prepared [] = true

@@ -1,4 +1,5 @@
 pub mod Asking
+pub mod Caching
 pub mod Languages
 pub mod Elf
 pub mod FrameViews

@@ -1,8 +1,8 @@
 // A space over an image that has grown.
 ghost use Rattle.std.specs.Prelude.{◌≡◌, ◌∷◌, []};
 ghost use Rattle.memory_image.specs.Image.{IsLaidOut, table_at};
-ghost use Rattle.stack_steps.specs.Growing.{Grows, all_prepared, over_image};
-ghost use Rattle.stack_steps.specs.GrownSample.{grown_image, table_image};
+ghost use Rattle.stack_steps.specs.Growing.{Grows, IsSeenOver, all_prepared, over_image};
+ghost use Rattle.stack_steps.specs.GrownSample.{grown_image, table_image, table_space};
 ghost use Rattle.stack_steps.specs.Modules.{AreApart, module_at};
 
 use crate::space::{Module, Space};
@@ -82,9 +82,11 @@ impl<'a> Space<'a> {
 }
 
 /// An image can grow: a table stays where it is, and a stack is mapped beside it. So what
-/// [`GrownSpace::new`] asks can be met. The function does nothing.
+/// [`GrownSpace::new`] and [`FrameCache::advance`](crate::FrameCache::advance) ask can be met. The
+/// function does nothing.
 pub fn an_image_grows()
     ensures grows { Grows table_image grown_image }
+    ensures seen { IsSeenOver table_space (over_image table_space grown_image) }
     ensures apart { table_at table_image 0x7000 ≡ [] }
     ensures mapped { table_at grown_image 0x7000 ≡ 9 ∷ [] }
 {}

@@ -5,6 +5,7 @@
 mod asking;
 mod elf;
 mod error;
+mod frame_cache;
 mod frames;
 mod grown;
 mod languages;
@@ -21,6 +22,7 @@ pub use asking::{FrameAction, frame_asks};
 pub use elf::SearchedFrame;
 pub use error::DeliverError;
 pub use format_frames::Stepped;
+pub use frame_cache::FrameCache;
 pub use frames::FoundFrame;
 pub use grown::{GrownSpace, an_image_grows};
 pub use languages::Languages;

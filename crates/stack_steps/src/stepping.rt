@@ -95,6 +95,14 @@ where
         image
     }
 
+    /// The window over the image.
+    #[inline(always)]
+    pub(crate) fn stack(&self) -> &Window<'s, 'a>
+        ensures { result.now ≡ self.now.image }
+    {
+        &self.stack
+    }
+
     /// The module that holds the address asked at a state, `None` at the end of the stack.
     #[tactic(auto, unfolding(crate::specs::Stepping::frame_of))]
     fn holder_at(&mut self, context: &Context, interrupted: bool) -> Option<&'s AddedModule<'t>>
@@ -345,7 +353,7 @@ where
     /// once more, uncounted: what is handed on to a call has to be laid out in memory, for each step.
     #[inline(never)]
     #[tactic(auto, unfolding(crate::specs::Stepping::step_of))]
-    fn advance_by_copy(
+    pub(crate) fn advance_by_copy(
         &mut self,
         added_module: &AddedModule<'t>,
         state: &mut Stepped,
@@ -371,7 +379,7 @@ where
     /// The same of a frame of any module, with a room for its row.
     #[inline(never)]
     #[tactic(auto, unfolding(crate::specs::Stepping::step_of))]
-    fn advance_in_room<L: Ledger>(
+    pub(crate) fn advance_in_room<L: Ledger>(
         &mut self,
         state: &mut Stepped,
         steps: &mut Steps<L>,

@@ -9,3 +9,6 @@ returns-clause-grows c a some = go (holds table_span a) refl
     go : (b : Bool) → holds table_span a ≡ b → table_at grown_image a ≡ table_at table_image a
     go true added_module = rw added_module refl
     go false added_module = absurd (some (rw added_module refl))
+
+pub returns-clause-seen : goal.returns-clause-seen
+returns-clause-seen c = record { same = refl; grows = λ a some. returns-clause-grows c a some }
