@@ -7,6 +7,7 @@ ghost use Rattle.stack_walks.specs.FrameVisits.{mark_at, enters};
 ghost use Rattle.stack_steps.specs.Languages.{selector_of};
 ghost use Rattle.stack_walks.specs.WalkEnds.{reached_by, turned_from, IsReached, UnwindsAsWalk};
 ghost use Rattle.stack_steps.specs.FrameViews.{GivesFrameAt, IsFrameOf};
+ghost use Rattle.stack_steps.specs.Growing.{IsSeenOver};
 ghost use Rattle.stack_steps.specs.Stepping.{frame_of};
 ghost use Rattle.stack_steps.specs.Frames.{FrameAt};
 ghost use Rattle.stack_walks.specs.VisitViews.{passing, visit_shown, visits};
@@ -20,8 +21,8 @@ use eh_frame::RowRoom;
 use fde_finders::FDESearchResult;
 use memory_image::{Ledger, MemoryImage, Steps};
 use stack_steps::{
-    DeliverError, FoundFrame, FrameAction, GrownSpace, Languages, Space, Stepped, Stepper,
-    frame_asks,
+    DeliverError, FoundFrame, FrameAction, FrameCache, GrownSpace, Languages, Space, Stepped,
+    Stepper, frame_asks,
 };
 use unwind_arch::x86_64::{Context, RAX, RDX, RSP};
 use unwinding_frames::frame_mark;
@@ -283,6 +284,37 @@ where
     for _ in 0..limit {
         record_visit(None, state, room);
         if !stepper.advance(state, steps)? {
+            return Ok(None);
+        }
+    }
+    Err(DeliverError::FrameLimit)
+}
+
+/// The same by the rows that a cache keeps, so that a frame at an address that was asked before needs
+/// no search.
+pub(crate) fn unwind_frames_cached<'t, 'a, L: Ledger>(
+    cache: &mut FrameCache<'_, 't>,
+    space: &GrownSpace<'_, 't, 'a>,
+    state: &mut Stepped,
+    limit: u32,
+    room: &mut Room,
+    steps: &mut Steps<L>,
+) -> Result<Option<Stop>, DeliverError>
+where
+    't: 'a,
+    requires over { IsSeenOver cache.old space.now }
+    requires within { limit ≤ room.old.limit }
+    requires empty { room.old.visited ≡ [] }
+    ensures walks { UnwindsAsWalk space.now limit state.old state.new room.old room.new result }
+    ensures ticks { RisesWithin space.now
+        (contexts_met None space.now limit state.old.context state.old.signal)
+        steps.old.number steps.new.number }
+    ensures same { cache.new ≡ cache.old }
+{
+    let mut stepper = Stepper::over(space, state.context.registers[RSP]);
+    for _ in 0..limit {
+        record_visit(None, state, room);
+        if !cache.advance(&mut stepper, state, steps)? {
             return Ok(None);
         }
     }

@@ -20,16 +20,19 @@ ghost use Rattle.stack_walks.specs.KnownWalks.{StartsKnownStack, ShowStack, end_
 ghost use Rattle.stack_walks.specs.Walking.{ShowChain, StartsChain};
 ghost use Rattle.stack_steps.specs.Modules.{SpaceValue};
 ghost use Rattle.stack_steps.specs.Elf.{FindsNone};
+ghost use Rattle.stack_steps.specs.Growing.{IsSeenOver};
 ghost use Rattle.stack_steps.specs.Stepping.{step_of, FindsNoneIn};
 ghost use Rattle.stack_steps.specs.Stopped.{StartsStopped};
 ghost use Rattle.stack_steps.specs.Ticking.{RisesWithin};
 
 use crate::room::Room;
-use crate::unwind::{Stop, unwind_frames_alone, unwind_frames_over};
+use crate::unwind::{Stop, unwind_frames_alone, unwind_frames_cached, unwind_frames_over};
 use eh_frame::{Bases, EhFrame, Entries, Error, RowRoom};
 use fde_finders::{FrameInfo, FrameInfoKind};
 use memory_image::{Ledger, MemoryImage, Steps};
-use stack_steps::{DeliverError, GrownSpace, Module, ModuleTables, Space, Stepped, Stepper};
+use stack_steps::{
+    DeliverError, FrameCache, GrownSpace, Module, ModuleTables, Space, Stepped, Stepper,
+};
 use unwind_arch::x86_64::{Context, RSP};
 
 /// Why a walk goes no further than its last state.
@@ -195,6 +198,40 @@ where
     }
 }
 
+/// The same by the rows that a cache keeps.
+fn walk_to_end_by<'t, 'a, L: Ledger>(
+    cache: &mut FrameCache<'_, 't>,
+    space: &GrownSpace<'_, 't, 'a>,
+    start: &Context,
+    interrupted: bool,
+    limit: u32,
+    room: &mut Room,
+    steps: &mut Steps<L>,
+) -> EndReason
+where
+    't: 'a,
+    requires over { IsSeenOver cache.old space.now }
+    requires within { limit ≤ room.old.limit }
+    ensures states { room.new.visited ≡ contexts_to_end space.now limit start.now interrupted }
+    ensures why { ComesTo result space.now limit start.now interrupted }
+    ensures no_cleanup { room.new.trail ≡ [] }
+    ensures places { room.new.limit ≡ room.old.limit }
+    ensures searches { RisesWithin space.now (length room.new.visited) steps.old.number
+        steps.new.number }
+    ensures ticks { RisesWithin space.now limit steps.old.number steps.new.number }
+    ensures same { cache.new ≡ cache.old }
+{
+    room.clear();
+    let mut state = Stepped {
+        context: *start,
+        signal: interrupted,
+    };
+    match unwind_frames_cached(cache, space, &mut state, limit, room, steps) {
+        Ok(_) => unframed_end(space, &state),
+        Err(error) => stopped_end(state.address(), error),
+    }
+}
+
 /// Goes from a state outwards as a walk does.
 fn unwinding_from<'t, 'a, L: Ledger>(
     space: &GrownSpace<'_, 't, 'a>,
@@ -295,6 +332,54 @@ where
     // No two of its modules share an address, as a space's type says.
     let _ = space.image();
     walk_to_end(space, start, interrupted, limit, room, steps)
+}
+
+/// Walks as [`walk_to_end_over`] does, by the rows that a cache of the same space keeps. A frame at an
+/// address that was asked before, in whichever walk, needs no search, and counts one step.
+pub fn walk_to_end_cached<'t, 'a, L: Ledger>(
+    cache: &mut FrameCache<'_, 't>,
+    space: &GrownSpace<'_, 't, 'a>,
+    start: &Context,
+    interrupted: bool,
+    limit: u32,
+    room: &mut Room,
+    steps: &mut Steps<L>,
+) -> EndReason
+where
+    't: 'a,
+    requires over { IsSeenOver cache.old space.now }
+    requires within { limit ≤ room.old.limit }
+    // The states are those from the start outwards, each the caller of the one before.
+    ensures states { room.new.visited ≡ contexts_to_end space.now limit start.now interrupted }
+    // They are all of a line that the limit has room for, and the first of any longer one.
+    ensures whole { (states : List Context) →
+        line_of space.now limit start.now interrupted ≡ Ok states →
+        room.new.visited ≡ states }
+    ensures front { (longer : ℕ) (states : List Context) → limit ≤ longer →
+        line_of space.now longer start.now interrupted ≡ Ok states →
+        room.new.visited ≡ take limit states }
+    // Each reason is given exactly for its cause.
+    ensures why { (reason : EndReason) → (result ≡ reason) ↔
+        ComesTo reason space.now limit start.now interrupted }
+    // A stack of each of whose frames it is known how its caller's state follows is walked to its end,
+    // through signals' frames too, for the reason that its outermost state has.
+    ensures known { (s : State) (callers : List State) →
+        (is : StartsKnownStack space.now start.now limit interrupted s callers) →
+        ShowStack space.now room.new.visited interrupted s callers is.stack ×
+        (result ≡ end_reason_of_stack space.now interrupted s callers is.stack) }
+    ensures no_cleanup { room.new.trail ≡ [] }
+    ensures places { room.new.limit ≡ room.old.limit }
+    // A description is searched once at most at each state.
+    ensures searches { RisesWithin space.now (length room.new.visited) steps.old.number
+        steps.new.number }
+    // As many searches as the limit allows states; none is counted where each module names a frame
+    // table and none is prepared.
+    ensures ticks { RisesWithin space.now limit steps.old.number steps.new.number }
+    ensures same { cache.new ≡ cache.old }
+{
+    // No two of its modules share an address, as a space's type says.
+    let _ = space.image();
+    walk_to_end_by(cache, space, start, interrupted, limit, room, steps)
 }
 
 /// Walks the stack whose innermost frame has the registers `start` into a room as far as it goes,
