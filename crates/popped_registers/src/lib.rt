@@ -13,4 +13,4 @@ mod sample;
 mod walks;
 
 pub use sample::a_popped_register_is_kept;
-pub use walks::{KeptWalk, walk_interrupted};
+pub use walks::{KeptWalk, walk_interrupted, walk_interrupted_cached};

@@ -17,8 +17,8 @@ ghost use Rattle.popped_registers.specs.PoppedRegisters.{popped_at, popped_by_ru
 use crate::popped::{cfa_of, popped_by, rule_of};
 use eh_frame::{Register, RowRef, RowRoom};
 use memory_image::{MemoryImage, NoLedger, Steps};
-use stack_steps::{DeliverError, FoundFrame, GrownSpace, Space, Stepped, Stepper};
-use stack_walks::{EndReason, Room, walk_to_end_over};
+use stack_steps::{DeliverError, FoundFrame, FrameCache, GrownSpace, Space, Stepped, Stepper};
+use stack_walks::{EndReason, Room, walk_to_end_cached, walk_to_end_over};
 use unwind_arch::x86_64::{Context, RSP};
 
 /// Why a walk goes no further, and whether it kept popped registers.
@@ -70,6 +70,31 @@ where
     let grown = GrownSpace::new(space, image);
     let steps = &mut Steps::new(NoLedger);
     walk_to_end_over(&grown, start, true, limit, room, steps)
+}
+
+/// The same by the rows that a cache keeps.
+fn walk_over_cached<'s, 'c, 't>(
+    cache: &mut FrameCache<'c, 't>,
+    image: &'s MemoryImage<'s>,
+    start: &Context,
+    limit: u32,
+    room: &mut Room,
+) -> EndReason
+where
+    't: 's,
+    'c: 's,
+    requires within { limit ≤ room.old.limit }
+    requires grows { Grows cache.old.image image.now }
+    ensures states { room.new.visited ≡
+        contexts_to_end (over_image cache.old image.now) limit start.now true }
+    ensures why { ComesTo result (over_image cache.old image.now) limit start.now true }
+    ensures no_cleanup { room.new.trail ≡ [] }
+    ensures places { room.new.limit ≡ room.old.limit }
+    ensures same { cache.new ≡ cache.old }
+{
+    let grown = cache.over(image);
+    let steps = &mut Steps::new(NoLedger);
+    walk_to_end_cached(cache, &grown, start, true, limit, room, steps)
 }
 
 /// Walks over an image and the slots of those of some registers that were popped.
@@ -279,6 +304,44 @@ where
     let why = walk_over(space, image, start, limit, room);
     if is_cut_at_start(why, room) {
         walk_with_popped(space, image, start, limit, room)
+    } else {
+        KeptWalk { why, popped: false }
+    }
+}
+
+/// Walks as [`walk_interrupted`] does over the space of a cache, by the rows that the cache keeps. A
+/// frame at an address that was asked before, in whichever walk, needs no search.
+pub fn walk_interrupted_cached<'s, 'c, 't>(
+    cache: &mut FrameCache<'c, 't>,
+    image: &'s MemoryImage<'s>,
+    start: &Context,
+    limit: u32,
+    room: &mut Room,
+) -> KeptWalk
+where
+    't: 's,
+    'c: 's,
+    requires within { limit ≤ room.old.limit }
+    requires grows { Grows cache.old.image image.now }
+    // The states are those from the start outwards, over the memory that keeps popped registers.
+    ensures states { room.new.visited ≡ contexts_to_end
+        (kept_space (over_image cache.old image.now) limit start.now) limit start.now true }
+    // The reason is that of this walk.
+    ensures why { ComesTo result.why
+        (kept_space (over_image cache.old image.now) limit start.now) limit start.now true }
+    // It is marked exactly where a register was popped.
+    ensures popped { result.popped ≡ is_popped (over_image cache.old image.now) limit start.now }
+    // A stack that is walked whole without this is walked so, and not marked.
+    ensures whole { (states : List Context) →
+        line_of (over_image cache.old image.now) limit start.now true ≡ Ok states →
+        (room.new.visited ≡ states) × (result.popped ≡ false) }
+    ensures same { cache.new ≡ cache.old }
+    ensures no_cleanup { room.new.trail ≡ [] }
+    ensures places { room.new.limit ≡ room.old.limit }
+{
+    let why = walk_over_cached(cache, image, start, limit, room);
+    if is_cut_at_start(why, room) {
+        walk_with_popped(cache.space(), image, start, limit, room)
     } else {
         KeptWalk { why, popped: false }
     }
