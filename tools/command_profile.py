@@ -33,7 +33,7 @@ from flame_picture import Counts, Drawing, Name, picture_of
 from flamegraph import Frames, Names, Stack, clean, named_lines
 from names import ReportedFrame, trampolines_of
 from perf_parts import Part, parts_of
-from perf_tables import tables_of
+from perf_tables import tables_of, vdso_of
 from thread_reports import built_path, run
 from process_profile import natural
 from snapshot_file import Object, text_of
@@ -192,7 +192,7 @@ def named_profile(content: bytes, program: str, is_script: bool) -> Named:
     counts, script = Counter[tuple[Name, ...]](), []
     for number, part in enumerate(parts, 1):
         say(f"{counted(part.samples, 'sample')} of {file_of(part) or 'no file'}, program {number} of {len(parts)}")
-        tables = tables_of(part.mappings)
+        tables = tables_of(part.mappings, vdso_of(content))
         counts.update(counts_of(tables, lines_of(part, tables, program)))
         if is_script:
             script += named_script(part, tables, program)

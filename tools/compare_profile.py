@@ -1,137 +1,199 @@
 #!/usr/bin/env python3
-"""Whether `profile` gives the frames that `perf script` gives of a process of perf.data files.
+"""Whether `profile` gives the frames that `perf script` gives of the samples of perf.data files.
 
-    compare_profile.py PROFILE PERF.DATA ..
+    compare_profile.py [--show] PROFILE PERF.DATA ..
 
-PROFILE is the built program. Of each file the process with the most samples is compared: how many of its samples have
-the same frames by both, and how the others differ. perf prints a caller by the byte before its return address, and
-its place in the file; frames of the kernel are left out.
+PROFILE is the built program. Of each file the samples of the program with the most of them are compared one by one, by
+their threads and times: the name of the thread, and each frame's file and its place in it. A line says how many have the
+same, and how the others differ; with --show each of these is printed, too. perf prints a caller by the byte before its
+return address; frames of the kernel are left out.
 """
 from __future__ import annotations
 
+import argparse
 import collections
 import os
 import re
+import struct
 import subprocess
-import sys
 import tempfile
 from typing import Iterator, NamedTuple
 
-from perf_tables import Mapping, read_profile, tables_of
+from elf_image import Range
+from perf_parts import Part, Times, parts_of
+from perf_tables import SAMPLE, Mapping, record_places, tables_of, thread_place, vdso_of
 from snapshot_file import text_of
+from symbols import SUPPLIED
 
 KERNEL = 2**63
+MOST_FRAMES = 1024
+
+# Where an attribute says which words a sample has and how much of a stack is copied, and the words that may come after the copy.
+KINDS, SIZE_OF_COPIES = 24, 88
+WEIGHT, DATA_SOURCE, TRANSACTION = 0x4000, 0x8000, 0x20000
+
+HEAD = re.compile(r"\s*(.*?)\s+\d+/(\d+)\s+(\d+\.\d+):")
+FRAME = re.compile(r"\t\s*(?:0x)?([0-9a-f]+) .*?\((.*)\)$")
+REASON = re.compile(r"\t0x0 (\[.*\]) ")
 
 Frame = tuple[str, int]
+Key = tuple[int, int]
 
 
-class Stack(NamedTuple):
-    """The name of a thread, and its frames from the innermost outwards: a file and a place in it."""
+class Sample(NamedTuple):
+    """The name of a sample's thread, its frames from the innermost outwards, and what is said beside them."""
 
     name: str
     frames: tuple[Frame, ...]
+    marks: tuple[str, ...] = ()
 
 
-class Process:
-    """A process of a perf.data file, and where its files are mapped."""
+class Places:
+    """Where the files of a program are mapped."""
 
-    def __init__(self, number: int, mappings: list[Mapping]) -> None:
-        self.number = number
-        self.tables = tables_of(mappings)
-        self.mapped: dict[str, list[Mapping]] = collections.defaultdict(list)
-        for mapping in mappings:
-            self.mapped[os.path.basename(mapping.path)].append(mapping)
-        self.bias = {os.path.basename(found["path"]): int(found["bias"], 16) for found in self.tables["modules"]}
+    def __init__(self, mappings: list[Mapping]) -> None:
+        self.mappings = mappings
 
-    def frame_of(self, text: str, inner: bool) -> Frame:
-        """A frame of the program, as perf places it."""
-        if "+0x" not in text:
-            return "", int(text, 16) - (not inner)
-        name, offset = text.rsplit("+", 1)
-        address = (int(offset, 16) + self.bias[name]) % 2**64 - (not inner)
-        for mapping in self.mapped[name]:
+    def of(self, address: int) -> Frame:
+        """The file that holds an address, and the address's place in it as perf prints that."""
+        for mapping in self.mappings:
             if mapping.start <= address < mapping.start + mapping.size:
-                return name, address - mapping.start + mapping.offset
-        return name, address
-
-    def stack_of(self, text: str) -> Stack:
-        """A stack of the program, without what is told beside its frames."""
-        name, *parts = text.split(";")
-        texts = [part for part in parts if not part.startswith("[")]
-        frames = [self.frame_of(part, place == len(texts) - 1) for place, part in enumerate(texts)]
-        return Stack(name, tuple(reversed(frames)))
+                if mapping.path == SUPPLIED:
+                    return mapping.path, address - mapping.start
+                if mapping.path.startswith("/") and not mapping.path.startswith("//"):
+                    return os.path.basename(mapping.path), address - mapping.start + mapping.offset
+        return "", address
 
 
-def stacks_of_program(program: str, path: str, process: Process) -> collections.Counter[Stack]:
-    """The program's stacks, with their counts."""
-    with tempfile.NamedTemporaryFile("w", suffix=".json") as tables, open(path, "rb") as content:
-        tables.write(text_of(process.tables))
-        tables.flush()
-        done = subprocess.run([program, tables.name], stdin=content, check=True, capture_output=True, text=True)
-    stacks: collections.Counter[Stack] = collections.Counter()
-    for line in done.stdout.splitlines():
-        text, count = line.rsplit(" ", 1)
-        stacks[process.stack_of(text)] += int(count)
-    return stacks
-
-
-def frames_in(lines: list[str]) -> Iterator[Frame]:
-    """The frames that perf prints, but for the kernel's."""
-    for line in lines:
-        address, file = line.split(None, 1)
-        name = file.strip()[1:-1]
-        if int(address, 16) < KERNEL:
-            yield os.path.basename(name) if name.startswith("/") else "", int(address, 16)
-
-
-def stacks_of_perf(path: str, process: Process) -> collections.Counter[Stack]:
-    """perf's stacks, with their counts."""
-    command = ["perf", "script", "-i", path, "--no-inline", "--max-stack", "1024", "-F", "comm,ip,dso"]
-    command += ["--pid", str(process.number)]
-    text = subprocess.run(command, check=True, capture_output=True, text=True).stdout
-    stacks: collections.Counter[Stack] = collections.Counter()
+def blocks_of(text: str) -> Iterator[tuple[Key, str, list[str]]]:
+    """The samples of a text as `perf script` writes it: thread and time, the thread's name, and the lines of frames."""
     for block in text.split("\n\n"):
         lines = [line for line in block.split("\n") if line.strip()]
-        if lines:
-            stacks[Stack(re.sub(r"[ ;]", "_", lines[0].strip()), tuple(frames_in(lines[1:])))] += 1
-    return stacks
+        head = HEAD.match(lines[0]) if lines else None
+        if head is not None:
+            yield (int(head[2]), int(head[3].replace(".", ""))), re.sub(r"[\x00- ;]", "_", head[1]), lines[1:]
 
 
-def difference(ours: Stack, theirs: Stack) -> str | None:
-    """How two stacks of one sample differ. None where they may be of different samples."""
+def samples_of_program(program: str, part: Part, vdso: bytes | None) -> dict[Key, Sample]:
+    """The program's samples."""
+    places, samples = Places(part.mappings), dict[Key, Sample]()
+    with tempfile.NamedTemporaryFile("w", suffix=".json") as tables:
+        tables.write(text_of(tables_of(part.mappings, vdso), most=None))
+        tables.flush()
+        words = [program, "--script", tables.name]
+        text = subprocess.run(words, input=part.files[0], check=True, capture_output=True).stdout.decode(errors="replace")
+    for key, name, lines in blocks_of(text):
+        marks = [(line, REASON.match(line)) for line in lines]
+        frames = [FRAME.match(line) for line, mark in marks if mark is None]
+        found = tuple(places.of(int(frame[1], 16)) for frame in frames if frame is not None)
+        samples[key] = Sample(name, found, tuple(mark[1] for _, mark in marks if mark is not None))
+    return samples
+
+
+def frame_of_perf(address: int, path: str) -> Frame:
+    """A frame by perf's line."""
+    if path == SUPPLIED:
+        return path, address
+    return os.path.basename(path) if path.startswith("/") and not path.startswith(("//", "/tmp/perf-")) else "", address
+
+
+def samples_of_perf(path: str) -> dict[Key, Sample]:
+    """perf's samples, without the frames of the kernel."""
+    words = ["perf", "script", "-i", path, "--ns", "--no-inline", "--max-stack", str(MOST_FRAMES), "-F", "comm,pid,tid,time,ip,dso"]
+    text = subprocess.run(words, check=True, capture_output=True).stdout.decode(errors="replace")
+    samples = dict[Key, Sample]()
+    for key, name, lines in blocks_of(text):
+        frames = [(int(frame[1], 16), frame[2]) for frame in map(FRAME.match, lines) if frame is not None]
+        samples[key] = Sample(name, tuple(frame_of_perf(*frame) for frame in frames if frame[0] < KERNEL))
+    return samples
+
+
+class Copies:
+    """The copies of stacks in the samples of a file."""
+
+    def __init__(self, content: bytes) -> None:
+        """Finds how long they are, and how far before a sample's end."""
+        self.content = content
+        (attribute,) = struct.unpack_from("<Q", content, 24)
+        (kinds,) = struct.unpack_from("<Q", content, attribute + KINDS)
+        (self.size,) = struct.unpack_from("<I", content, attribute + SIZE_OF_COPIES)
+        self.after = 8 * sum(bool(kinds & bit) for bit in (WEIGHT, DATA_SOURCE, TRANSACTION))
+
+    def last_word(self, place: Range) -> int | None:
+        """The last word of a sample's copy, None where it has none."""
+        end = place.end - self.after - 8
+        start = end - self.size
+        if start - 8 < place.start or struct.unpack_from("<Q", self.content, start - 8)[0] != self.size:
+            return None
+        (copied,) = struct.unpack_from("<Q", self.content, end)
+        if not 8 <= copied <= self.size:
+            return None
+        word: int = struct.unpack_from("<Q", self.content, start + copied - 8)[0]
+        return word
+
+
+def last_words(content: bytes) -> dict[Key, int]:
+    """Of each sample the last word of the copy of its stack."""
+    copies, times, thread, words = Copies(content), Times(content), thread_place(content), dict[Key, int]()
+    for place in record_places(content):
+        if struct.unpack_from("<I", content, place.start)[0] == SAMPLE:
+            word = copies.last_word(place)
+            if word is not None:
+                words[struct.unpack_from("<I", content, place.start + 12 + thread)[0], times.of(place)] = word
+    return words
+
+
+def difference(ours: Sample, theirs: Sample, is_last_word: bool) -> str:
+    """How two samples differ, empty where they don't."""
     a, b = ours.frames, theirs.frames
-    if ours.name != theirs.name:
-        return "another name, the same frames" if a == b else None
-    if a[:1] != b[:1]:
-        return None
-    if len(a) == 1:
-        return "ours ends at the first frame"
+    if a == b:
+        return "" if ours.name == theirs.name else "another name"
     if a[: len(b)] == b:
-        return "perf ends one frame short" if len(a) == len(b) + 1 else "perf ends before"
-    return "ours ends before" if b[: len(a)] == a else None
+        short = "perf ends one frame before, whose return address is the copy's last word"
+        return short if len(a) == len(b) + 1 and is_last_word else "perf ends before"
+    if b[: len(a)] == a:
+        return "perf goes on after " + "".join(ours.marks or ("the outermost",))
+    return "other frames after " + "".join(ours.marks or ("the outermost",))
 
 
-def compare(program: str, path: str) -> None:
+def show(key: Key, kind: str, samples: tuple[Sample, Sample]) -> None:
+    """Prints two samples."""
+    print(f"thread {key[0]} at {key[1]}: {kind}")
+    for who, sample in zip(("profile", "perf"), samples):
+        print(f"  {who}: {sample.name} {' '.join(sample.marks)}")
+        print("".join(f"    {name}+{place:#x}\n" for name, place in sample.frames), end="")
+
+
+def compare(program: str, path: str, is_shown: bool) -> None:
     """Prints how many samples have the same frames, and how the others differ."""
     with open(path, "rb") as stream:
-        profile = read_profile(stream.read())
-    number, _ = profile.samples.most_common(1)[0]
-    process = Process(number, profile.mappings[number])
-    ours, theirs = stacks_of_program(program, path, process), stacks_of_perf(path, process)
-    left = list((theirs - ours).elements())
+        content = stream.read()
+    part = parts_of(content)[0]
+    places, words = Places(part.mappings), last_words(part.files[0])
+    ours, theirs = samples_of_program(program, part, vdso_of(content)), samples_of_perf(path)
     kinds: collections.Counter[str] = collections.Counter()
-    for stack in (ours - theirs).elements():
-        pairs = [(kind, other) for other in left if (kind := difference(stack, other))]
-        if pairs:
-            kinds[pairs[0][0]] += 1
-            left.remove(pairs[0][1])
-    same = sum((ours & theirs).values())
-    others = [f"{kind}: {count}" for kind, count in sorted(kinds.items())]
-    if left:
-        others.append(f"other: {len(left)}")
-    print(f"{path}: {sum(theirs.values())} samples, same frames: {same}" + "".join(f", {kind}" for kind in others))
+    for key, sample in ours.items():
+        is_last = bool(sample.frames) and key in words and sample.frames[-1] == places.of(words[key] - 1)
+        kind = difference(sample, theirs[key], is_last) if key in theirs else "not in perf's text"
+        kinds[kind] += 1
+        if kind and is_shown:
+            show(key, kind, (sample, theirs.get(key, Sample("", ()))))
+    marks = collections.Counter(mark for sample in ours.values() for mark in sample.marks)
+    frames = sum(len(sample.frames) for sample in ours.values())
+    print(f"{path}: {len(ours):,} samples, {frames:,} frames, same: {kinds.pop('', 0):,}", end="")
+    print("".join(f", {kind}: {count:,}" for kind, count in sorted(kinds.items())), end="; ")
+    print(", ".join(f"{mark} {count:,}" for mark, count in sorted(marks.items())))
+
+
+def main() -> None:
+    parser = argparse.ArgumentParser(description="compares the frames of `profile` with those of perf")
+    parser.add_argument("--show", action="store_true")
+    parser.add_argument("program", metavar="PROFILE")
+    parser.add_argument("files", metavar="PERF.DATA", nargs="+")
+    words = parser.parse_args()
+    for file in words.files:
+        compare(words.program, file, words.show)
 
 
 if __name__ == "__main__":
-    for file in sys.argv[2:]:
-        compare(sys.argv[1], file)
+    main()

@@ -13,7 +13,7 @@ from collections import defaultdict
 from typing import Iterator, NamedTuple
 
 from elf_image import Range
-from perf_tables import BY_EXEC, COMM, MMAP2, SAMPLE, Mapping, mapping_of, record_places, thread_place
+from perf_tables import BY_EXEC, COMM, MMAP2, SAMPLE, Mapping, mapping_of, record_places, thread_place, with_mapping
 
 FORK = 7
 FIRST_OF_PERF = 64
@@ -99,13 +99,8 @@ class Programs:
             self._begin(struct.unpack_from("<I", self.content, body)[0])
         elif kind == MMAP2:
             (process,) = struct.unpack_from("<I", self.content, body)
-            self._map(self._program(process), mapping_of(self.content[body : place.end]))
-
-    def _map(self, program: int, mapping: Mapping) -> None:
-        """A file is mapped, in place of what was there."""
-        end = mapping.start + mapping.size
-        kept = [old for old in self.mappings[program] if old.start >= end or old.start + old.size <= mapping.start]
-        self.mappings[program] = [*kept, mapping]
+            program = self._program(process)
+            self.mappings[program] = with_mapping(self.mappings[program], mapping_of(self.content[body : place.end]))
 
     def files(self, program: int, most: int) -> Iterator[bytes]:
         """perf.data files of at most so many bytes with the samples of a program, where one sample fits."""

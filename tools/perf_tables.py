@@ -6,7 +6,8 @@
 
 Of the process PID, or of the one with the most samples, each file that it mapped as code is read where
 the mapping says: its frame table and the header of this. A process has the mappings of its last program
-alone. What can't be taken is said on standard error, and what the system maps itself is passed over.
+alone. What can't be taken is said on standard error. The vdso, which the system maps and no file has, is
+taken from the memory of this program, where the profile is of the same release of the kernel.
 
 The process is the one whose samples `profile` is to be given: see `perf script --pid`, and
 `perf record --pid`.
@@ -15,14 +16,16 @@ from __future__ import annotations
 
 import argparse
 import collections
+import io
 import os
 import struct
 import sys
-from typing import Iterator, NamedTuple
+from typing import BinaryIO, Iterator, NamedTuple
 
 from elf_image import ElfImage, Range, Refused
 from loaded_module import Module, module_objects
 from snapshot_file import MOST_STATES_OF_A_SAMPLE, Object, Region, region_object, text_of
+from symbols import SUPPLIED, supplied_image
 
 # perf's types of records, and the bits of `misc` and of protections that are asked here.
 COMM, SAMPLE, MMAP2 = 3, 9, 10
@@ -31,6 +34,9 @@ PROTECTION_CODE = 4
 
 # the bits of `sample_type` of the words that stand before a sample's thread
 IDENTIFIER, IP = 0x10000, 0x1
+
+# Where a header says which features follow the records, and the feature that is the kernel's release.
+FEATURES, KERNEL_RELEASE = 72, 4
 
 
 class Mapping(NamedTuple):
@@ -85,6 +91,20 @@ def mapping_of(body: bytes) -> Mapping:
     return Mapping(start, size, offset, protection, os.fsdecode(body[64 : body.index(0, 64)]))
 
 
+def left_of(old: Mapping, new: Mapping) -> Iterator[Mapping]:
+    """What is left of a mapping where another is made: what lies below the new one, and what lies above it."""
+    end, start = old.start + old.size, max(old.start, new.start + new.size)
+    if old.start < new.start:
+        yield old._replace(size=min(old.size, new.start - old.start))
+    if start < end:
+        yield old._replace(start=start, size=end - start, offset=old.offset + start - old.start)
+
+
+def with_mapping(mappings: list[Mapping], new: Mapping) -> list[Mapping]:
+    """The mappings with another, in place of what was there."""
+    return [*(left for old in mappings for left in left_of(old, new)), new]
+
+
 def read_profile(content: bytes) -> Profile:
     """The samples and the mappings of each process. A new program begins without mappings."""
     profile = Profile(collections.Counter(), collections.defaultdict(list))
@@ -95,38 +115,65 @@ def read_profile(content: bytes) -> Profile:
         elif kind == COMM and misc & BY_EXEC:
             profile.mappings[struct.unpack_from("<I", body, 0)[0]].clear()
         elif kind == MMAP2:
-            profile.mappings[struct.unpack_from("<I", body, 0)[0]].append(mapping_of(body))
+            (process,) = struct.unpack_from("<I", body, 0)
+            profile.mappings[process] = with_mapping(profile.mappings[process], mapping_of(body))
     return profile
 
 
-def taken_module(mapping: Mapping) -> tuple[Module, list[Region]]:
+def release_of(content: bytes) -> str | None:
+    """The release of the kernel that a perf.data file was recorded on, where it says it."""
+    features = int.from_bytes(content[FEATURES : FEATURES + 8], "little")
+    if not features >> KERNEL_RELEASE & 1:
+        return None
+    sections = sum(struct.unpack_from("<QQ", content, 40))
+    before = (features & ((1 << KERNEL_RELEASE) - 1)).bit_count()
+    offset, size = struct.unpack_from("<QQ", content, sections + 16 * before)
+    return os.fsdecode(content[offset + 4 : offset + size].split(b"\0")[0])
+
+
+def vdso_of(content: bytes) -> bytes | None:
+    """The vdso of a profile's processes, where they ran over the kernel that runs here."""
+    return supplied_image() if release_of(content) == os.uname().release else None
+
+
+def taken_module(stream: BinaryIO, mapping: Mapping) -> tuple[Module, list[Region]]:
     """What is taken of the file of a mapping."""
-    with open(mapping.path, "rb") as stream:
-        image = ElfImage(stream)
-        bias = image.bias_of_mapping(mapping.start, mapping.offset)
-        places = {name: image.section_range(name, bias) for name in (".eh_frame", ".eh_frame_hdr")}
-        table = places[".eh_frame"]
-        if table is None:
-            raise Refused("it has no frame table")
-        regions = []
-        for name, place in places.items():
-            section = image.section(name)
-            if section is not None and place is not None:
-                regions.append(Region(place.start, image.contents(section)))
-        code = [Range(mapping.start, mapping.start + mapping.size)]
-        module = Module(mapping.path, bias, image.build_id(), code, table, places[".eh_frame_hdr"], [], [])
-        return module, regions
+    image = ElfImage(stream)
+    bias = image.bias_of_mapping(mapping.start, mapping.offset)
+    places = {name: image.section_range(name, bias) for name in (".eh_frame", ".eh_frame_hdr")}
+    table = places[".eh_frame"]
+    if table is None:
+        raise Refused("it has no frame table")
+    regions = []
+    for name, place in places.items():
+        section = image.section(name)
+        if section is not None and place is not None:
+            regions.append(Region(place.start, image.contents(section)))
+    code = [Range(mapping.start, mapping.start + mapping.size)]
+    module = Module(mapping.path, bias, image.build_id(), code, table, places[".eh_frame_hdr"], [], [])
+    return module, regions
 
 
-def tables_of(mappings: list[Mapping]) -> Object:
+def opened_file(mapping: Mapping, vdso: bytes | None) -> BinaryIO | None:
+    """The file of a mapping as code, None where it has none."""
+    if mapping.path == SUPPLIED and vdso is not None and len(vdso) == mapping.size:
+        return io.BytesIO(vdso)
+    if mapping.protection & PROTECTION_CODE and mapping.path.startswith("/"):
+        return open(mapping.path, "rb")
+    return None
+
+
+def tables_of(mappings: list[Mapping], vdso: bytes | None = None) -> Object:
     """The snapshot of the files that are mapped as code, whose start isn't used."""
     regions: dict[int, Region] = {}
     modules: list[Object] = []
     for mapping in mappings:
-        if not mapping.protection & PROTECTION_CODE or not mapping.path.startswith("/"):
-            continue
         try:
-            module, found = taken_module(mapping)
+            file = opened_file(mapping, vdso)
+            if file is None:
+                continue
+            with file as stream:
+                module, found = taken_module(stream, mapping)
         except (Refused, OSError) as error:
             print(f"passes over {mapping.path}: {error}", file=sys.stderr)
             continue
@@ -163,7 +210,7 @@ def main() -> None:
             mappings = read_profile(content).mappings[words.process]
         else:
             mappings = program_mappings(content)
-        print(text_of(tables_of(mappings), most=None))
+        print(text_of(tables_of(mappings, vdso_of(content)), most=None))
     except (Refused, OSError) as error:
         sys.exit(f"{words.file}: {error}")
 

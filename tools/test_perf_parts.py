@@ -61,10 +61,14 @@ class Parts(unittest.TestCase):
 
     def test_what_was_mapped_before_is_gone(self) -> None:
         content = perf_file([
-            mapping(1, START, "/a"), mapping(1, START + 0x1000, "/b"), mapping(1, START + 0x1800, "/c"), sample(1),
+            mapping(1, START, "/a"), mapping(1, START + 0x1000, "/b"), mapping(1, START + 0x1800, "/c"),
+            mapping(1, START, "/d"), sample(1),
         ])
         (part,) = parts_of(content)
-        self.assertEqual([found.path for found in part.mappings], ["/a", "/c"])
+        self.assertEqual(
+            [(found.path, found.start, found.size, found.offset) for found in part.mappings],
+            [("/b", START + 0x1000, 0x800, 0x1000), ("/c", START + 0x1800, 0x1000, 0x1000), ("/d", START, 0x1000, 0x1000)],
+        )
 
     def test_the_order_of_times(self) -> None:
         """A sample that stands before the start of its program, as from another processor."""

@@ -7,7 +7,9 @@ import tempfile
 import unittest
 
 from elf_image import Refused
-from perf_tables import COMM, MMAP2, SAMPLE, Profile, read_profile, records_of, tables_of
+from perf_tables import (
+    COMM, MMAP2, SAMPLE, Mapping, Profile, read_profile, records_of, release_of, tables_of, vdso_of, with_mapping,
+)
 from test_elf_image import small_elf
 
 BY_EXEC = 0x2000
@@ -54,6 +56,24 @@ class PerfTables(unittest.TestCase):
         profile = self.profile_of([mapping(7, 0x71000, "/program"), name])
         self.assertEqual([found.path for found in profile.mappings[7]], ["/program"])
 
+    def test_a_mapping_takes_the_place_of_what_was_there(self) -> None:
+        """A loader maps a whole file as code, and then its data over a part of it."""
+        file = Mapping(0x1000, 0x3000, 0x2000, 5, "/file")
+        self.assertEqual(
+            with_mapping([file], Mapping(0x2000, 0x800, 0, 3, "/file")),
+            [
+                Mapping(0x1000, 0x1000, 0x2000, 5, "/file"),
+                Mapping(0x2800, 0x1800, 0x3800, 5, "/file"),
+                Mapping(0x2000, 0x800, 0, 3, "/file"),
+            ],
+        )
+        for start in (0x0, 0x4000):
+            beside = Mapping(start, 0x1000, 0, 5, "/beside")
+            self.assertEqual(with_mapping([file], beside), [file, beside])
+        for start, size in ((0x1000, 0x3000), (0x800, 0x4000)):
+            over = Mapping(start, size, 0, 5, "/over")
+            self.assertEqual(with_mapping([file], over), [over])
+
     def test_mapped_file_gives_its_tables(self) -> None:
         with tempfile.TemporaryDirectory() as folder:
             path = os.path.join(folder, "program")
@@ -74,6 +94,29 @@ class PerfTables(unittest.TestCase):
             tables = tables_of(self.profile_of(mapped).mappings[7])
         self.assertEqual((tables["regions"], tables["modules"]), ([], []))
         self.assertEqual(told.getvalue().count("passes over"), 1)
+
+    def test_the_vdso_is_that_of_this_program(self) -> None:
+        content = small_elf().ljust(0x1000, b"\0")
+        (vdso,) = self.profile_of([mapping(7, 0x71000, "[vdso]")]).mappings[7]
+        (module,) = tables_of([vdso], content)["modules"]
+        self.assertEqual((module["start"], module["end"], module["path"]), ("0x71000", "0x72000", "[vdso]"))
+        for other in (None, content + content):
+            self.assertEqual(tables_of([vdso], other)["modules"], [])
+
+    def test_the_vdso_is_taken_for_the_same_release_of_the_kernel(self) -> None:
+        def of_release(release: str) -> bytes:
+            content = bytearray(perf_file([sample(1)]))
+            content[72] = 1 << 2 | 1 << 4 | 1 << 6
+            end, text = len(content), os.fsencode(release).ljust(64, b"\0")
+            content += struct.pack("<QQQQQQ", end, 0, end + 48, 4 + len(text), end, 0)
+            return bytes(content + struct.pack("<I", len(text)) + text)
+
+        release = os.uname().release
+        self.assertEqual(release_of(of_release(release)), release)
+        taken = vdso_of(of_release(release))
+        self.assertEqual(taken[:4] if taken is not None else None, b"\x7fELF")
+        self.assertIsNone(vdso_of(of_release(release + "-other")))
+        self.assertIsNone(vdso_of(perf_file([sample(1)])))
 
     def test_foreign_and_cut_files_are_refused(self) -> None:
         with self.assertRaises(Refused):
