@@ -201,7 +201,8 @@ unfolding shared_layout
 shared_same front more long within =
     let size : attribute_size (front ++ more) ≡ attribute_size front = u64_same 16 front more (omega arith) in
     let attributes = section_same attributes_place front more (omega arith) within in
-    λ i. layout_among (size i) (attributes i)
+    let recorded : section_size (front ++ more) records_place ≡ section_size front records_place = size_same records_place front more (omega arith) in
+    λ i. cond (recorded i == 0) (Err errors.Unfinished) (layout_among (size i) (attributes i))
 
 abbrev before_by : Bool → Bool → Bool → Result Layout PerfError → Result Layout PerfError
 before_by foreign pipe header layout = cond foreign (Err errors.ByteOrder) (cond pipe (Err errors.Pipe) (cond header layout (Err errors.Header)))

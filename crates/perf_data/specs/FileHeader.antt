@@ -61,3 +61,7 @@ section bytes place =
     if nat_le (section_offset bytes place + section_size bytes place) (length bytes) then
     Some (section_offset bytes place, take (section_size bytes place) (drop (section_offset bytes place) bytes))
     else None
+
+-- the section of the records has no size: perf tells it when the recording ends
+abbrev pub is_unfinished : List ℕ → Bool
+is_unfinished bytes = section_size bytes records_place == 0

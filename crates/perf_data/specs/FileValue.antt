@@ -3,7 +3,7 @@ use Rattle.std.specs.Prelude.{ℕ, List, Option, Some, None, Result, Ok, Err, Is
 use Rattle.perf_data.specs.declared.errors.PerfError.{PerfError}
 use Rattle.perf_data.specs.declared.errors.PerfError.TheVariants as errors
 use Rattle.perf_data.specs.declared.layout.Layout.{Layout}
-use Rattle.perf_data.specs.FileHeader.{is_foreign, is_pipe, has_file_header, attribute_size, section, attributes_place, records_place}
+use Rattle.perf_data.specs.FileHeader.{is_foreign, is_pipe, has_file_header, attribute_size, section, attributes_place, records_place, is_unfinished}
 use Rattle.perf_data.specs.Layouts.{first_layout, share_layout}
 use Rattle.perf_data.specs.Records.{RecordValue, records_of}
 
@@ -24,8 +24,9 @@ abbrev pub layout_among : ℕ → Option (ℕ × List ℕ) → Result Layout Per
 layout_among size None = Err errors.Attributes
 layout_among size (Some p) = layout_shared size p.1 (first_layout size p.1)
 
+-- where the recording ended
 unfoldable pub shared_layout : List ℕ → Result Layout PerfError
-shared_layout bytes = layout_among (attribute_size bytes) (section bytes attributes_place)
+shared_layout bytes = if is_unfinished bytes then Err errors.Unfinished else layout_among (attribute_size bytes) (section bytes attributes_place)
 
 abbrev pub records_after : Layout → Option (ℕ × List ℕ) → Result PerfValue PerfError
 records_after layout None = Err errors.Records

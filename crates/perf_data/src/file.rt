@@ -4,13 +4,13 @@ ghost use Rattle.std.specs.Prelude.{Ok, Err, None};
 ghost use Rattle.perf_data.specs.declared.layout.Layout.{Layout};
 ghost use Rattle.perf_data.specs.FileValue.{perf_of, shared_layout, records_after, HasHeader};
 ghost use Rattle.perf_data.specs.FileHeader.{is_foreign, is_pipe, has_file_header};
-ghost use Rattle.perf_data.specs.FileHeader.{section, records_place};
+ghost use Rattle.perf_data.specs.FileHeader.{is_unfinished, section, records_place};
 ghost use Rattle.perf_data.specs.Views.{records_left};
 
 use crate::errors::PerfError;
 use crate::header::{
     ATTRIBUTES_OFFSET, RECORDS_OFFSET, attribute_size, has_file_header, is_foreign, is_pipe,
-    section,
+    is_unfinished, section,
 };
 use crate::layout::{Layout, first_layout, share_layout};
 use crate::records::Records;
@@ -42,6 +42,9 @@ pub(crate) fn shared_layout(bytes: &[u8]) -> Result<Layout, PerfError>
     requires { 72 ≤ length bytes.now }
     ensures { result ≡ shared_layout bytes.now }
 {
+    if is_unfinished(bytes) {
+        return Err(PerfError::Unfinished);
+    }
     let size = attribute_size(bytes);
     let Some((_, attributes)) = section(bytes, ATTRIBUTES_OFFSET) else {
         return Err(PerfError::Attributes);
@@ -95,7 +98,7 @@ impl<'a> PerfFile<'a> {
     /// # Errors
     ///
     /// The first that holds, in this order: [`PerfError::ByteOrder`], [`PerfError::Pipe`], [`PerfError::Header`],
-    /// [`PerfError::Attributes`], [`PerfError::Layouts`] and [`PerfError::Records`].
+    /// [`PerfError::Unfinished`], [`PerfError::Attributes`], [`PerfError::Layouts`] and [`PerfError::Records`].
     pub fn parse(bytes: &'a [u8]) -> Result<PerfFile<'a>, PerfError>
         ensures exact { result ≡ perf_of bytes.now }
         // Which error it is.
@@ -105,6 +108,8 @@ impl<'a> PerfFile<'a> {
         ensures header { (result ≡ Err PerfError.Header) ↔
             (IsFalse (is_foreign bytes.now) × IsFalse (is_pipe bytes.now) ×
             IsFalse (has_file_header bytes.now)) }
+        ensures unfinished { (result ≡ Err PerfError.Unfinished) ↔
+            (HasHeader bytes.now × IsTrue (is_unfinished bytes.now)) }
         ensures attributes { (result ≡ Err PerfError.Attributes) ↔
             (HasHeader bytes.now × (shared_layout bytes.now ≡ Err PerfError.Attributes)) }
         ensures layouts { (result ≡ Err PerfError.Layouts) ↔

@@ -3,7 +3,7 @@ ghost use Rattle.std.specs.Prelude.{◌≡◌, ◌+◌, ◌≤◌, length, IsTru
 ghost use Rattle.std.specs.Option.{option_map};
 ghost use Rattle.memory_image.specs.Words.{u16_at};
 ghost use Rattle.perf_data.specs.FileHeader.{is_foreign, has_header_of, is_pipe, has_file_header};
-ghost use Rattle.perf_data.specs.FileHeader.{section, attribute_size};
+ghost use Rattle.perf_data.specs.FileHeader.{section, attribute_size, is_unfinished};
 
 use memory_image::u64_at;
 
@@ -77,6 +77,14 @@ pub(crate) fn attribute_size(bytes: &[u8]) -> u64
     ensures { result ≡ attribute_size bytes.now }
 {
     u64_at(bytes, ATTRIBUTE_SIZE_OFFSET)
+}
+
+/// Whether the recording didn't end.
+pub(crate) fn is_unfinished(bytes: &[u8]) -> bool
+    requires { 72 ≤ length bytes.now }
+    ensures { result ≡ is_unfinished bytes.now }
+{
+    u64_at(bytes, RECORDS_OFFSET + 8) == 0
 }
 
 /// The section of which the header tells at a place: its offset in the file, and its bytes. `None` where it doesn't lie

@@ -165,6 +165,8 @@ impl RecordReader {
         ensures cut { IfOk result (λ whole. IsFalse whole →
             IfSome (due_left self.old (I.left input.old)) (λ due. due ≡ Err PerfError.Records)) }
         ensures ends { IfOk result (λ _. IsAtEnd (I.left input.new)) }
+        ensures place { HasPlace self.new self.old.layout self.old.offset self.old.size }
+        ensures held { held self.new ≡ held self.old }
         ensures on { GoesOn (I.left input.old) (I.left input.new) (I.faults input.old)
             (I.faults input.new) }
         ensures fault { IsErrOf result StreamError.Fault →

@@ -1,7 +1,7 @@
 -- The lines in the profile's place.
 use Rattle.std.specs.Prelude.{ℕ, List, ◌++◌, codes}
 use Rattle.perf_data.specs.declared.errors.PerfError.{PerfError}
-use Rattle.perf_data.specs.declared.errors.PerfError.TheVariants.{ByteOrder, Pipe, Header, Attributes, Layouts, Records, Cut, Size, Body, Compressed, Trailing}
+use Rattle.perf_data.specs.declared.errors.PerfError.TheVariants.{ByteOrder, Pipe, Header, Unfinished, Attributes, Layouts, Records, Cut, Size, Body, Compressed, Trailing}
 use Rattle.stack_report.specs.Digits.{hexadecimal}
 use Rattle.stack_report.specs.Report.{line}
 
@@ -13,6 +13,7 @@ abbrev pub cause_text : PerfError → List ℕ
 cause_text ByteOrder = codes "byte order"
 cause_text Pipe = codes "pipe"
 cause_text Header = codes "header"
+cause_text Unfinished = codes "unfinished"
 cause_text Attributes = codes "attributes"
 cause_text Layouts = codes "layouts"
 cause_text Records = codes "records"

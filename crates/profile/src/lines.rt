@@ -22,6 +22,7 @@ fn put_cause(report: &mut Report, error: PerfError) -> Result<(), AllocError>
         PerfError::ByteOrder => report.put("byte order"),
         PerfError::Pipe => report.put("pipe"),
         PerfError::Header => report.put("header"),
+        PerfError::Unfinished => report.put("unfinished"),
         PerfError::Attributes => report.put("attributes"),
         PerfError::Layouts => report.put("layouts"),
         PerfError::Records => report.put("records"),
