@@ -35,8 +35,8 @@ PROTECTION_CODE = 4
 # the bits of `sample_type` of the words that stand before a sample's thread
 IDENTIFIER, IP = 0x10000, 0x1
 
-# Where a header says which features follow the records, and the feature that is the kernel's release.
-FEATURES, KERNEL_RELEASE = 72, 4
+# The size of a header, where it says which features follow the records, and the feature that is the kernel's release.
+SIZE_OF_HEADER, FEATURES, KERNEL_RELEASE = 104, 72, 4
 
 
 class Mapping(NamedTuple):
@@ -63,11 +63,18 @@ def records_of(content: bytes) -> Iterator[tuple[int, int, bytes]]:
         yield kind, misc, content[place.start + 8 : place.end]
 
 
+def check_header(content: bytes) -> None:
+    """Refuses what doesn't begin as a perf.data file of this byte order does."""
+    if content[:8] != b"PERFILE2" or len(content) < SIZE_OF_HEADER:
+        raise Refused("it is no perf.data file of this byte order")
+
+
 def record_places(content: bytes) -> Iterator[Range]:
     """Where the records are."""
-    if content[:8] != b"PERFILE2":
-        raise Refused("it is no perf.data file of this byte order")
+    check_header(content)
     offset, size = struct.unpack_from("<QQ", content, 40)
+    if size == 0:
+        raise Refused("its recording didn't end")
     place, end = offset, min(offset + size, len(content))
     while place + 8 <= end:
         (length,) = struct.unpack_from("<H", content, place + 6)
@@ -79,6 +86,7 @@ def record_places(content: bytes) -> Iterator[Range]:
 
 def thread_place(content: bytes) -> int:
     """Where a sample's thread stands in its body, by the first attribute."""
+    check_header(content)
     attributes = struct.unpack_from("<Q", content, 24)[0]
     kinds = struct.unpack_from("<Q", content, attributes + 24)[0]
     return 8 * bool(kinds & IDENTIFIER) + 8 * bool(kinds & IP)
@@ -213,6 +221,8 @@ def main() -> None:
         print(text_of(tables_of(mappings, vdso_of(content)), most=None))
     except (Refused, OSError) as error:
         sys.exit(f"{words.file}: {error}")
+    except (struct.error, ValueError, OverflowError):
+        sys.exit(f"{words.file}: it is cut or damaged")
 
 
 if __name__ == "__main__":

@@ -8,7 +8,8 @@ import unittest
 
 from elf_image import Refused
 from perf_tables import (
-    COMM, MMAP2, SAMPLE, Mapping, Profile, read_profile, records_of, release_of, tables_of, vdso_of, with_mapping,
+    COMM, MMAP2, SAMPLE, Mapping, Profile, program_mappings, read_profile, records_of,
+    release_of, tables_of, vdso_of, with_mapping,
 )
 from test_elf_image import small_elf
 
@@ -123,6 +124,9 @@ class PerfTables(unittest.TestCase):
             list(records_of(b"2ELIFREP".ljust(104, b"\0")))
         with self.assertRaises(Refused):
             list(records_of(perf_file([struct.pack("<IHH", SAMPLE, 2, 64)])))
+        for content in (b"PERFILE2", b"other".ljust(200), perf_file([])):
+            with self.assertRaises(Refused):
+                program_mappings(content)
 
 
 if __name__ == "__main__":
