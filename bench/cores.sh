@@ -1,6 +1,6 @@
 #!/usr/bin/env bash
 # Prints how long the backtraces of all threads of a core or a process take, by backtrace.sh, gdb and
-# eu-stack, and whether their frames are the same; and of a core how long core_stacks takes, without names and with.
+# eu-stack, and whether their frames are the same; and of a core the same of core_stacks, without names and with.
 #
 #   cores.sh PROGRAM CORE
 #   cores.sh PID                   a process whose threads wait, or that is stopped (kill -STOP)
@@ -35,6 +35,15 @@ line() {
     awk -v name="$1" -v said="$2" '{ printf "%-11s %7.3f s, %7.3f s  %s\n", name, $1, $2 + $3, said }' "$scratch/$1.time"
 }
 
+# What is said of core_stacks' frames, or what it says where it refuses the core.
+of_core_stacks() {
+    if grep -q '^thread ' "$scratch/$1"; then
+        python3 "$here/core_frames.py" "$scratch/$1" "$scratch/frames"
+    else
+        head -1 "$scratch/$1"
+    fi
+}
+
 past=(-ex 'set backtrace past-main on' -ex 'set backtrace past-entry on')
 timed ours "$tools/backtrace.sh" "$@" --threads
 timed gdb gdb -nx -batch "${past[@]}" -ex 'thread apply all bt' "${of_gdb[@]}"
@@ -46,9 +55,9 @@ line gdb "$(python3 "$here/core_frames.py" "$scratch/ours" "$scratch/frames")"
 gdb_status=$?
 if [ $# -eq 2 ] && [ -x "$core_stacks" ]; then
     timed core_stacks "$core_stacks" "$2"
-    line core_stacks "$(grep -c '^thread ' "$scratch/core_stacks") threads, $(grep -c '^frame ' "$scratch/core_stacks") states, without names"
+    line core_stacks "$(of_core_stacks core_stacks)"
     timed named "$core_stacks" --names "$2"
-    line named "$(grep -c '^frame .* in ' "$scratch/named") states with a function or a file, by core_stacks --names"
+    line named "with names: $(of_core_stacks named)"
 fi
 line eu-stack "$(python3 "$here/core_frames.py" "$scratch/ours" "$scratch/eu-stack")"
 [ $gdb_status -eq 0 ] && python3 "$here/core_frames.py" "$scratch/ours" "$scratch/eu-stack" > /dev/null
