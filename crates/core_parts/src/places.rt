@@ -7,7 +7,8 @@ ghost use Rattle.mapped_modules.specs.Places.{first_such};
 ghost use Rattle.mapped_modules.specs.Spaces.{codes_of, tables_of};
 ghost use Rattle.part_walks.specs.Parts.{HasBytes, HasTables, HaveTables};
 ghost use Rattle.core_parts.specs.Parts.{CanBeWalkedByParts, IsStackPart, LiesIn, are_laid_out};
-ghost use Rattle.core_parts.specs.Parts.{end_at, has_address, is_apart, is_laid_out};
+ghost use Rattle.core_parts.specs.Parts.{end_at, has_address, is_apart, is_laid_out, part_from};
+ghost use Rattle.core_parts.specs.Parts.{stack_part, stack_parts};
 
 use core_file::{CoreFront, SegmentPlace};
 use fde_finders::{FrameInfo, named_table};
@@ -140,7 +141,8 @@ fn is_apart(place: &SegmentPlace, loaded: &[LoadedModule]) -> bool
 /// The part of a segment from some bytes below a stack pointer on, of at most so many bytes. `None`
 /// where an address or an offset of it passes 2^64.
 fn part_from(place: SegmentPlace, pointer: u64, size: u64) -> Option<SegmentPlace>
-    ensures { IfSome result (λ part. LiesIn part place) }
+    ensures exact { result ≡ part_from pointer size place }
+    ensures lies { IfSome result (λ part. LiesIn part place) }
 {
     let skip = pointer
         .saturating_sub(place.address)
@@ -161,7 +163,9 @@ fn stack_part(
     pointer: u64,
     size: u64,
 ) -> Option<SegmentPlace>
-    ensures { IfSome result (λ part.
+    ensures exact { result ≡
+        stack_part front.now.places (tables_of (map loaded_value loaded.now)) pointer size }
+    ensures part { IfSome result (λ part.
         IsStackPart front.now.places (tables_of (map loaded_value loaded.now)) part) }
 {
     let place = place_at(front, pointer)?;
@@ -191,7 +195,9 @@ pub fn stack_parts(
     loaded: &[LoadedModule],
     size: u64,
 ) -> Result<Vec<SegmentPlace>, AllocError>
-    ensures { IfOk result (λ parts. AllByRecursion
+    ensures exact { IfOk result (λ parts.
+        parts.items ≡ stack_parts front.now (map loaded_value loaded.now) size) }
+    ensures parts { IfOk result (λ parts. AllByRecursion
         (IsStackPart front.now.places (tables_of (map loaded_value loaded.now))) parts.items) }
 {
     let mut parts = Vec::new(alloc);
