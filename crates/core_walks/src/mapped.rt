@@ -1,5 +1,5 @@
 // The walks of threads over a part of the memory, where that part suffices.
-ghost use Rattle.std.specs.Prelude.{◌≡◌, IfOk, IfSome, IsSome};
+ghost use Rattle.std.specs.Prelude.{◌≡◌, ◌↔◌, IfOk, IfSome, IsSome};
 ghost use Rattle.core_file.specs.Left.{threads_left};
 ghost use Rattle.core_walks.specs.Lines.{threads_text};
 ghost use Rattle.core_walks.specs.MappedWalks.{AreMapped, is_unmapped};
@@ -36,7 +36,7 @@ pub fn mapped_walks_of_threads(
 ) -> Result<Option<Report>, AllocError>
     ensures text { IfOk result (λ told. IfSome told (λ report.
         report ≡ threads_text space.now limit 0 (threads_left threads.entry))) }
-    ensures mapped { IfOk result (λ told. IsSome told →
+    ensures mapped { IfOk result (λ told. IsSome told ↔
         AreMapped space.now limit (threads_left threads.entry)) }
 {
     let mut report = Report::new(alloc);

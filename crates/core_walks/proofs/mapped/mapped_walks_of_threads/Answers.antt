@@ -22,7 +22,10 @@ loop-thread-preserved c =
     let fits = before.fits in
     record {
       text = rw put.text (text_next old space limit index thread (threads_left c.next.new.self) ∙ ap (λ (cs : List Context). old ++ threads_text space limit index cs) (sym steps) ∙ before.text);
-      mapped = λ later. before.mapped (subst (λ (cs : List Context). AreMapped space limit cs) (sym steps) (sym put.mapped ∙ c.if-not-branch.false, later));
+      mapped = (
+        λ later. before.mapped.0 (subst (λ (cs : List Context). AreMapped space limit cs) (sym steps) (sym put.mapped ∙ c.if-not-branch.false, later)),
+        λ all. (subst (λ (cs : List Context). AreMapped space limit cs) steps (before.mapped.1 all)).1,
+      );
       room = put.places ∙ before.room;
       fits = omega arith;
     }
