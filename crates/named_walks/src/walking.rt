@@ -1,5 +1,5 @@
 // The lines of walks.
-ghost use Rattle.std.specs.Prelude.{◌≡◌, ◌≤◌, ◌++◌, ℕ, List, IfOk, IfSome, IsErrOf, IsSome};
+ghost use Rattle.std.specs.Prelude.{◌≡◌, ◌≤◌, ◌++◌, ◌↔◌, ℕ, List, IfOk, IfSome, IsErrOf, IsSome};
 ghost use Rattle.std.specs.Prelude.{OnOk, vec_capacity};
 ghost use Rattle.core_file.specs.Left.{threads_left};
 ghost use Rattle.mapped_files.specs.Files.{AreTold};
@@ -223,7 +223,7 @@ pub fn mapped_named_walks_of_threads<F: Files>(
     ensures told { (all : List ℕ → List ℕ) → AreTold (F.content names.old.files) all →
         IfOk result (λ walked. IfSome walked (λ report. report ≡
         named_threads_text all names.old.parts space.now limit 0 (threads_left threads.entry))) }
-    ensures mapped { IfOk result (λ walked. IsSome walked →
+    ensures mapped { IfOk result (λ walked. IsSome walked ↔
         AreMarkedMapped space.now limit (threads_left threads.entry)) }
     ensures fault { IsErrOf result PartError.Fault → F.may_fail names.old.files }
     ensures same { names.new ≡ names.old }

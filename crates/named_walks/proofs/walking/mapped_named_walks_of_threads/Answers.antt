@@ -26,7 +26,10 @@ loop-thread-preserved g c =
           let text : new ≡ old ++ named_thread_text all parts space limit index thread = rw same_parts at (put.told all (rw same_files tells)) in
           let next = count_fits all parts space limit index thread old new text (before.fits all tells) long in
           rw (c.saturating_add-index.ensures, next.0) (threads_more all parts space limit index thread (threads_left c.next.new.self) (threads_left c.loop-thread.threads) old new c.in-Some.ensures.steps text ∙ before.told all tells);
-      mapped = λ later. before.mapped (subst (λ (cs : List Context). AreMarkedMapped space limit cs) (sym c.in-Some.ensures.steps) (sym put.mapped ∙ c.if-not-branch.false, later));
+      mapped = (
+        λ later. before.mapped.0 (subst (λ (cs : List Context). AreMarkedMapped space limit cs) (sym c.in-Some.ensures.steps) (sym put.mapped ∙ c.if-not-branch.false, later)),
+        λ all. (subst (λ (cs : List Context). AreMarkedMapped space limit cs) c.in-Some.ensures.steps (before.mapped.1 all)).1,
+      );
       names = put.same ∙ before.names;
       room = rw put.places before.room;
       fits = λ all tells.
