@@ -1,4 +1,6 @@
 pub mod Cutting
+pub mod Fronts
 pub mod PartLines
+pub mod Sufficing
 pub mod Threads
 pub mod Ready

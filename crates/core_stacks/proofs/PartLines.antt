@@ -1,8 +1,8 @@
 -- The lines of a core's threads by parts of its file are those by all of it.
 use Rattle.std.proofs.Common.{◌≡◌, ◌≤◌, ◌<◌, ◌-◌, inr, ℕ, zero, suc, Bool, true, false, eqb, ltb, min, List, [], ◌∷◌, length, map, take, drop, Option, Some, None, Result, Ok, Err, refl, sym, ap, subst, ◌∙◌, arith, length-take, length-drop}
-use Rattle.std.specs.Prelude.{IfOk, IfSome, IsSome, IsTrue, not}
+use Rattle.std.specs.Prelude.{◌↔◌, IfOk, IfSome, IsSome, IsTrue, not}
 use Rattle.std.specs.List.{AllByRecursion}
-use Rattle.std.proofs.lemmas.Bool.{le-ltb, ltb-false, ltb-true}
+use Rattle.std.proofs.lemmas.Bool.{le-ltb, lt-ltb, ltb-false, ltb-true}
 use Rattle.std.proofs.lemmas.Bool.Decides.{nat_tests}
 use Rattle.memory_image.specs.Image.{Span}
 use Rattle.unwind_arch.specs.declared.x86_64.Context.{Context}
@@ -24,7 +24,7 @@ use Rattle.core_parts.proofs.Segments.{laid_segments}
 use Rattle.core_walks.specs.Lines.{threads_text}
 use Rattle.core_walks.specs.MappedWalks.{is_mapped, is_unmapped}
 use Rattle.core_walks.proofs.ThreadText.{threads_mapped}
-use Rattle.named_walks.specs.Marking.{marked_line_of, stopped_at}
+use Rattle.named_walks.specs.Marking.{AreMarkedMapped, marked_line_of, stopped_at}
 use Rattle.named_walks.specs.Named.{named_threads_text}
 use Rattle.named_walks.proofs.PartMarks.{core_marked}
 use Rattle.named_walks.proofs.Texts as named
@@ -83,13 +83,13 @@ lines_whole false files bytes front loaded parts are walked =
 -- the lines over the parts that were read, where they are there
 pub lines_told : {E : Type 0} (names : Bool) (files : List ℕ → List ℕ) (bytes : List ℕ) (front : FrontValue) (loaded : List LoadedValue) (parts : List SegmentPlace) (space : SpaceValue) (windows : List Span) (r : Result (Option (List ℕ)) E)
     → AreParts bytes front loaded parts → space ≡ space_of_core loaded windows → windows ≡ map (segment_by bytes) parts
-    → IfOk r (λ walked. IfSome walked (λ report. report ≡ lines_over names files (parts_of front.parts) space front.threads)) → IfOk r (λ walked. IsSome walked → AreWalked names space front.threads)
+    → IfOk r (λ walked. IfSome walked (λ report. report ≡ lines_over names files (parts_of front.parts) space front.threads)) → IfOk r (λ walked. IsSome walked ↔ AreWalked names space front.threads)
     → IfOk r (λ walked. IfSome walked (λ report. report ≡ lines_by names files bytes front loaded))
 lines_told names files bytes front loaded parts space windows (Err e) are over read told walked = tt
 lines_told names files bytes front loaded parts space windows (Ok None) are over read told walked = tt
 lines_told names files bytes front loaded parts space windows (Ok (Some report)) are over read told walked =
     let is : space ≡ part_space bytes loaded parts = over ∙ ap (space_of_core loaded) read in
-    let met : AreWalked names (part_space bytes loaded parts) front.threads = subst (λ (s : SpaceValue). AreWalked names s front.threads) is (walked refl) in
+    let met : AreWalked names (part_space bytes loaded parts) front.threads = subst (λ (s : SpaceValue). AreWalked names s front.threads) is (walked.0 refl) in
     told ∙ ap (λ (s : SpaceValue). lines_over names files (parts_of front.parts) s front.threads) is ∙ lines_whole names files bytes front loaded parts are met
 
 -- ---- what is due
@@ -135,12 +135,18 @@ has_more place whole bytes is =
     go n size is = grind (arith, nat_tests)
 
 -- whether a file is as long as is asked, and not longer than a core may be
-pub size_told : {E : Type 0} (r : Result Bool E) (end size : ℕ) → ltb most_bytes size ≡ false → 0 < end → IfOk r (λ has. has ≡ ltb (end - 1) size) → IfOk r (λ has. IsTrue has → (end ≤ size) × (size ≤ most_bytes))
+pub size_told : {E : Type 0} (r : Result Bool E) (end size : ℕ) → ltb most_bytes size ≡ false → 0 < end → IfOk r (λ has. has ≡ ltb (end - 1) size) → IfOk r (λ has. IsTrue has ↔ ((end ≤ size) × (size ≤ most_bytes)))
 size_told (Err e) end size short some told = tt
-size_told (Ok has) end size short some told = λ is.
-    let less = ltb-true (end - 1) size (sym told ∙ is) in
-    let most = ltb-false most_bytes size short in
-    (omega arith, omega arith)
+size_told (Ok has) end size short some told = (fits, long)
+  where
+    fits : IsTrue has → (end ≤ size) × (size ≤ most_bytes)
+    fits is =
+        let less = ltb-true (end - 1) size (sym told ∙ is) in
+        let most = ltb-false most_bytes size short in
+        (omega arith, omega arith)
+
+    long : (end ≤ size) × (size ≤ most_bytes) → IsTrue has
+    long both = (let reach = both.0 in told ∙ lt-ltb (end - 1) size (omega arith))
 
 -- a file that begins with a front, and whose size is as the front and the most bytes of a core say
 pub core_told : (front bytes : List ℕ) (value : FrontValue) → IsFrontOf front value → take (length front) bytes ≡ front → value.end ≤ length bytes → length bytes ≤ most_bytes → IsCoreBy bytes value
@@ -160,6 +166,12 @@ named_same files parts others space threads those (Ok (Some report)) same_parts 
 pub lines_named : {E : Type 0} (names : Bool) (files : List ℕ → List ℕ) (parts : List PartValue) (space : SpaceValue) (cs : List Context) (r : Result (Option (List ℕ)) E) → names ≡ true
     → IfOk r (λ walked. IfSome walked (λ report. report ≡ lines_over true files parts space cs)) → IfOk r (λ walked. IfSome walked (λ report. report ≡ lines_over names files parts space cs))
 lines_named names files parts space cs r is told = subst (λ (b : Bool). IfOk r (λ walked. IfSome walked (λ report. report ≡ lines_over b files parts space cs))) (sym is) told
+
+-- and whether they are there
+pub walked_named : {E : Type 0} (names : Bool) (space : SpaceValue) (threads those : List Context) (r : Result (Option (List ℕ)) E) → names ≡ true → threads ≡ those
+    → IfOk r (λ walked. IsSome walked ↔ AreMarkedMapped space most_states threads) → IfOk r (λ walked. IsSome walked ↔ AreWalked names space those)
+walked_named names space threads those r is same walked =
+    subst (λ (b : Bool). IfOk r (λ lines. IsSome lines ↔ AreWalked b space those)) (sym is) (subst (λ (cs : List Context). IfOk r (λ lines. IsSome lines ↔ AreMarkedMapped space most_states cs)) same walked)
 
 -- ---- the answer
 

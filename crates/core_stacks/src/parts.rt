@@ -1,13 +1,16 @@
 // The lines of a core's threads by parts of its file: its front, and windows of its memory.
-ghost use Rattle.std.specs.Prelude.{◌≡◌, ◌≤◌, ℕ, List, IfOk, IfSome, IsErrOf, IsSome, IsTrue};
-ghost use Rattle.std.specs.Prelude.{length, map, nat_lt, take, true};
+ghost use Rattle.std.specs.Prelude.{◌≡◌, ◌≤◌, ◌↔◌, ℕ, List, IfOk, IfSome, IsErrOf, IsSome, IsTrue};
+ghost use Rattle.std.specs.Prelude.{IsSomeAnd, length, map, nat_lt, take};
+ghost use Rattle.core_file.specs.ElfHeader.{header_size};
+ghost use Rattle.core_file.specs.Fronts.{front_end, headers_end};
 ghost use Rattle.command_ends.specs.Verdicts.{verdict};
 ghost use Rattle.mapped_files.specs.Files.{AreTold};
 ghost use Rattle.mapped_modules.specs.Loading.{loaded_value};
 ghost use Rattle.mapped_names.specs.Places.{parts_of};
 ghost use Rattle.core_parts.specs.Parts.{CanBeWalkedByParts};
 ghost use Rattle.core_stacks.specs.Due.{bytes_due, modules_in, most_bytes};
-ghost use Rattle.core_stacks.specs.PartLines.{AreWalked, IsCoreBy, lines_by, lines_over};
+ghost use Rattle.core_stacks.specs.PartLines.{AreWalked, AreWalkedBy, HasHeaders, HasShortFront};
+ghost use Rattle.core_stacks.specs.PartLines.{IsCoreBy, Suffice, SufficeBy, lines_by, lines_over};
 
 use crate::running::{MOST_BYTES, MOST_STATES, modules_in};
 use command_ends::Status;
@@ -46,6 +49,16 @@ fn front_after<F: Files>(
         take (length begin.items) (all path.now) ≡ begin.items →
         IfOk result (λ read. IfSome read (λ front.
         take (length front.items) (all path.now) ≡ front.items)) }
+    // Of a core whose front isn't too long the program headers are read, and where they were there all
+    // of the front.
+    ensures headers { (all : List ℕ → List ℕ) → AreTold (F.content files.now) all →
+        take (length begin.items) (all path.now) ≡ begin.items →
+        HasShortFront (all path.now) → header_size ≤ length begin.items →
+        IfOk result (λ read. IsSomeAnd read (λ front. HasHeaders front.items (all path.now))) }
+    ensures whole { (all : List ℕ → List ℕ) → AreTold (F.content files.now) all →
+        take (length begin.items) (all path.now) ≡ begin.items →
+        HasShortFront (all path.now) → HasHeaders begin.items (all path.now) →
+        IfOk result (λ read. IsSomeAnd read (λ front. front_end (all path.now) ≤ length front.items)) }
     ensures fault { IsErrOf result PartError.Fault → F.may_fail files.now }
 {
     let Some(size) = front_size(&begin) else {
@@ -67,6 +80,10 @@ fn front_of<F: Files>(alloc: Global, files: &F, path: &[u8]) -> Result<Option<Ve
     ensures told { (all : List ℕ → List ℕ) → AreTold (F.content files.now) all →
         IfOk result (λ read. IfSome read (λ front.
         take (length front.items) (all path.now) ≡ front.items)) }
+    // Of a core whose front isn't too long it is read.
+    ensures whole { (all : List ℕ → List ℕ) → AreTold (F.content files.now) all →
+        HasShortFront (all path.now) →
+        IfOk result (λ read. IsSomeAnd read (λ front. front_end (all path.now) ≤ length front.items)) }
     ensures fault { IsErrOf result PartError.Fault → F.may_fail files.now }
 {
     let begin = files.read_part(alloc, path, 0, FIRST_SIZE)?;
@@ -90,8 +107,8 @@ fn has_byte<F: Files>(alloc: Global, files: &F, path: &[u8], place: u64) -> Resu
 /// Whether a file has so many bytes at least, and no more than are read as a core.
 fn has_size<F: Files>(alloc: Global, files: &F, path: &[u8], end: u64) -> Result<bool, PartError>
     ensures told { (all : List ℕ → List ℕ) → AreTold (F.content files.now) all →
-        IfOk result (λ has. IsTrue has →
-        (end ≤ length (all path.now)) × (length (all path.now) ≤ most_bytes)) }
+        IfOk result (λ has. IsTrue has ↔
+        ((end ≤ length (all path.now)) × (length (all path.now) ≤ most_bytes))) }
     ensures fault { IsErrOf result PartError.Fault → F.may_fail files.now }
 {
     if has_byte(alloc, files, path, MOST_BYTES)? {
@@ -115,33 +132,16 @@ fn lines_over_space<F: Files>(
     ensures told { (all : List ℕ → List ℕ) → AreTold (F.content files.now) all →
         IfOk result (λ walked. IfSome walked (λ report. report ≡
         lines_over names all (parts_of front.now.parts) space.now front.now.threads)) }
-    ensures walked { IfOk result (λ walked. IsSome walked →
+    ensures walked { IfOk result (λ walked. IsSome walked ↔
         AreWalked names space.now front.now.threads) }
     ensures fault { IsErrOf result PartError.Fault → F.may_fail files.now }
 {
-    if names {
-        named_lines_over(alloc, files, front, space)
-    } else {
-        Ok(mapped_walks_of_threads(alloc, space, front.threads(), MOST_STATES)?)
+    let threads = front.threads();
+    if !names {
+        return Ok(mapped_walks_of_threads(alloc, space, threads, MOST_STATES)?);
     }
-}
-
-/// The same with the functions of their frames.
-fn named_lines_over<F: Files>(
-    alloc: Global,
-    files: &F,
-    front: &CoreFront<'_>,
-    space: &Space<'_>,
-) -> Result<Option<Report>, PartError>
-    ensures told { (all : List ℕ → List ℕ) → AreTold (F.content files.now) all →
-        IfOk result (λ walked. IfSome walked (λ report. report ≡
-        lines_over true all (parts_of front.now.parts) space.now front.now.threads)) }
-    ensures walked { IfOk result (λ walked. IsSome walked →
-        AreWalked true space.now front.now.threads) }
-    ensures fault { IsErrOf result PartError.Fault → F.may_fail files.now }
-{
-    let mut names = FrameNames::new(alloc, files, front.mapped_parts())?;
-    mapped_named_walks_of_threads(alloc, space, front.threads(), MOST_STATES, &mut names)
+    let mut functions = FrameNames::new(alloc, files, front.mapped_parts())?;
+    mapped_named_walks_of_threads(alloc, space, threads, MOST_STATES, &mut functions)
 }
 
 /// The lines of a core's threads by windows of at most so many bytes each. `None` where a walk met
@@ -160,6 +160,9 @@ fn lines_by_windows<F: Files>(
         front.now.end ≤ length (all path.now) →
         IfOk result (λ walked. IfSome walked (λ report. report ≡
         lines_by names all (all path.now) front.now (map loaded_value loaded.now))) }
+    ensures walked { (all : List ℕ → List ℕ) → AreTold (F.content files.now) all →
+        IfOk result (λ walked. IsSome walked ↔
+        AreWalkedBy names (all path.now) front.now (map loaded_value loaded.now) size) }
     ensures fault { IsErrOf result PartError.Fault → F.may_fail files.now }
 {
     let parts = stack_parts(alloc, front, loaded, size)?;
@@ -181,6 +184,9 @@ fn lines_by_modules<F: Files>(
         front.now.end ≤ length (all path.now) →
         IfOk result (λ walked. IfSome walked (λ report. report ≡
         lines_by names all (all path.now) front.now (map loaded_value loaded.now))) }
+    ensures walked { (all : List ℕ → List ℕ) → AreTold (F.content files.now) all →
+        IfOk result (λ walked. IsSome walked ↔
+        Suffice names (all path.now) front.now (map loaded_value loaded.now)) }
     ensures fault { IsErrOf result PartError.Fault → F.may_fail files.now }
 {
     if !has_walkable_parts(alloc, front, loaded)? {
@@ -205,6 +211,9 @@ fn lines_by_front<F: Files>(
         IsCoreBy (all path.now) front.now →
         IfOk result (λ walked. IfSome walked (λ report.
         bytes_due names all (all path.now) ≡ verdict Status.Done report)) }
+    ensures walked { (all : List ℕ → List ℕ) → AreTold (F.content files.now) all →
+        IfOk result (λ walked. IsSome walked ↔
+        Suffice names (all path.now) front.now (modules_in all front.now.parts)) }
     ensures fault { IsErrOf result PartError.Fault → F.may_fail files.now }
 {
     let loaded = modules_in(alloc, files, front.mapped_parts())?;
@@ -222,6 +231,10 @@ pub(crate) fn lines_by_parts<F: Files>(
     ensures told { (all : List ℕ → List ℕ) → AreTold (F.content files.now) all →
         IfOk result (λ walked. IfSome walked (λ report.
         bytes_due names all (all path.now) ≡ verdict Status.Done report)) }
+    // Of a core whose front isn't too long they are there where windows suffice by what it says.
+    ensures walked { (all : List ℕ → List ℕ) → AreTold (F.content files.now) all →
+        HasShortFront (all path.now) → length (all path.now) ≤ most_bytes →
+        SufficeBy names all (all path.now) → IfOk result (λ walked. IsSome walked) }
     ensures fault { IsErrOf result PartError.Fault → F.may_fail files.now }
 {
     let Some(bytes) = front_of(alloc, files, path)? else {

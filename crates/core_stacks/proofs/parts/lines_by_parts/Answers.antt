@@ -1,5 +1,7 @@
-use Rattle.std.proofs.Common.{◌≡◌, ◌≤◌, List, ℕ, length, take, sym, subst}
+use Rattle.std.proofs.Common.{◌≡◌, ◌∙◌, ◌≤◌, List, ℕ, Some, length, take, sym, ap, subst}
+use Rattle.core_file.specs.Fronts.{front_of}
 use Rattle.core_stacks.proofs.PartLines.{core_told}
+use Rattle.core_stacks.proofs.Sufficing.{some_walked}
 use Rattle.core_stacks.proofs.parts.lines_by_parts.Goals as goal
 
 pub returns-clause-told : goal.returns-clause-told
@@ -8,6 +10,14 @@ returns-clause-told g c = λ all tells.
     let value = c.in-Some-parse.front in
     let read : take (length c.in-Some.bytes.items) whole ≡ c.in-Some.bytes.items = rw c.in-Some.is at (c.in_ok-bytes.ensures.told all tells) in
     let begin = subst (λ (front : List ℕ). take (length front) whole ≡ front) (sym c.deref.ensures.value) read in
-    let size = c.in_ok-has_size.ensures.told all tells c.if-not-branch.false in
+    let size = (c.in_ok-has_size.ensures.told all tells).0 c.if-not-branch.false in
     let long = subst (λ (end : ℕ). end ≤ length whole) c.end.ensures size.0 in
     c.lines_by_front.ensures.told all tells (core_told c.deref.result.now whole value c.in-Some-parse.ensures.front begin long size.1)
+
+pub returns-clause-walked : goal.returns-clause-walked
+returns-clause-walked g c = λ all tells has few suffice.
+    let whole = all c.args.path.now in
+    let read : take (length c.in-Some.bytes.items) whole ≡ c.in-Some.bytes.items = rw c.in-Some.is at (c.in_ok-bytes.ensures.told all tells) in
+    let begin = subst (λ (front : List ℕ). take (length front) whole ≡ front) (sym c.deref.ensures.value) read in
+    let is : front_of c.deref.result.now ≡ Some c.in-Some-parse.front = sym c.parse.ensures.exact ∙ c.in-Some-parse.is in
+    some_walked c.lines_by_front.result (c.lines_by_front.ensures.walked all tells) (suffice c.deref.result.now c.in-Some-parse.front begin is)
