@@ -12,7 +12,7 @@ use Rattle.core_file.proofs.CoreLemmas.{IsGood, core_is_good}
 use Rattle.core_file.proofs.FrontLemmas.{size_by_all, size_by_headers}
 use Rattle.core_stacks.specs.PartLines.{HasHeaders, HasShortFront, most_front}
 
-core_with : (begin whole : List ℕ) → take (length begin) whole ≡ begin → HasShortFront whole → IsCoreWithFront begin whole
+pub core_with : (begin whole : List ℕ) → take (length begin) whole ≡ begin → HasShortFront whole → IsCoreWithFront begin whole
 core_with begin whole begins has = record { core = has.core; begins = begins; few = has.few }
 
 -- ---- how many bytes are asked for

@@ -58,7 +58,8 @@ fn front_after<F: Files>(
     ensures whole { (all : List ℕ → List ℕ) → AreTold (F.content files.now) all →
         take (length begin.items) (all path.now) ≡ begin.items →
         HasShortFront (all path.now) → HasHeaders begin.items (all path.now) →
-        IfOk result (λ read. IsSomeAnd read (λ front. front_end (all path.now) ≤ length front.items)) }
+        IfOk result (λ read. IsSomeAnd read (λ front.
+        front_end (all path.now) ≤ length front.items)) }
     ensures fault { IsErrOf result PartError.Fault → F.may_fail files.now }
 {
     let Some(size) = front_size(&begin) else {
@@ -83,7 +84,8 @@ fn front_of<F: Files>(alloc: Global, files: &F, path: &[u8]) -> Result<Option<Ve
     // Of a core whose front isn't too long it is read.
     ensures whole { (all : List ℕ → List ℕ) → AreTold (F.content files.now) all →
         HasShortFront (all path.now) →
-        IfOk result (λ read. IsSomeAnd read (λ front. front_end (all path.now) ≤ length front.items)) }
+        IfOk result (λ read. IsSomeAnd read (λ front.
+        front_end (all path.now) ≤ length front.items)) }
     ensures fault { IsErrOf result PartError.Fault → F.may_fail files.now }
 {
     let begin = files.read_part(alloc, path, 0, FIRST_SIZE)?;
