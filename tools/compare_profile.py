@@ -35,6 +35,8 @@ WEIGHT, DATA_SOURCE, TRANSACTION = 0x4000, 0x8000, 0x20000
 HEAD = re.compile(r"\s*(.*?)\s+\d+/(\d+)\s+(\d+\.\d+):")
 FRAME = re.compile(r"\t\s*(?:0x)?([0-9a-f]+) .*?\((.*)\)$")
 REASON = re.compile(r"\t0x0 (\[.*\]) ")
+# where a program writes the symbols of code that it makes: perf names such code by it
+SYMBOL_MAP = re.compile(r"perf-\d+\.map")
 
 Frame = tuple[str, int]
 Key = tuple[int, int]
@@ -94,7 +96,9 @@ def frame_of_perf(address: int, path: str) -> Frame:
     """A frame by perf's line."""
     if path == SUPPLIED:
         return path, address
-    return os.path.basename(path) if path.startswith("/") and not path.startswith(("//", "/tmp/perf-")) else "", address
+    name = os.path.basename(path)
+    is_file = path.startswith("/") and not path.startswith("//") and not SYMBOL_MAP.fullmatch(name)
+    return name if is_file else "", address
 
 
 def samples_of_perf(path: str) -> dict[Key, Sample]:
