@@ -6,11 +6,11 @@ use Rattle.std.proofs.lemmas.Bool.{lt-ltb, le-ltb}
 use Rattle.std.proofs.lemmas.List.{append-nil, map-append, length-map}
 use Rattle.unwind_definitions.specs.declared.error.Error.{Error as Fault}
 use Rattle.unwind_definitions.specs.Instructions.{Program}
-use Rattle.unwind_definitions.specs.Row.{RowInstructions, location, from_common, row, up_to}
+use Rattle.unwind_definitions.specs.Row.{RowInstructions, location, from_common, up_to}
 use Rattle.frame_rows.specs.Adding.{IsAdding, IsAppended, IsKeptWhole, done, due_at}
 use Rattle.frame_rows.specs.RowValue.{RowValue}
 use Rattle.frame_rows.specs.Rows.{GivesRow, IsLast}
-use Rattle.frame_rows.specs.Movable.{IsMovable, IsRelative}
+use Rattle.frame_rows.specs.Movable.{IsRelative}
 use Rattle.frame_rows.specs.Running.{push, outcome}
 use Rattle.frame_rows.specs.KeptRows.{Kept, KeptRows, AreKeptOf, AreRows, AreTooMany, IsAdded, Ascends, answer_rule_count, kept_rule_count, location_of, locations_after, kept_at_distance, reached_locations, rule_count_at, rule_count_of, then_location}
 use Rattle.frame_rows.specs.Stretches.{EndsStretch, IsLastStretch, IsStretch, IsFaultyStretch}

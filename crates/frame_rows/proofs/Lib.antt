@@ -13,6 +13,7 @@ mod Parts
 mod Adding
 mod BodiesGrow
 mod BodySteps
+mod OtherCfa
 mod BodyMakes
 mod RunAdds
 mod RunSteps
@@ -28,3 +29,4 @@ mod Moving
 mod Walking
 mod KnownEnds
 mod SameRows
+mod FirstRows

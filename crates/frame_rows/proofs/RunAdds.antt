@@ -1,5 +1,5 @@
 -- What a table has once a program has run from body to body.
-use Rattle.std.proofs.Common.{◌≡◌, ℕ, ◌+◌, ◌-◌, ◌<◌, ◌≤◌, List, [], ◌∷◌, ◌++◌, length, map, take, drop, Option, Some, None, Result, Ok, Err, refl, sym, ap, ◌∙◌, subst, arith, length-append}
+use Rattle.std.proofs.Common.{◌≡◌, ℕ, ◌+◌, ◌-◌, ◌<◌, ◌≤◌, List, [], ◌++◌, length, map, take, drop, Option, Some, None, Result, Ok, refl, sym, ap, ◌∙◌, subst, arith}
 use Rattle.std.specs.Option.{option_map}
 use Rattle.std.specs.List.{AllByRecursion}
 use Rattle.std.specs.Option.{unwrap_or}
@@ -12,7 +12,7 @@ use Rattle.unwind_definitions.specs.Row.{CfaRule, RowInstructions, argument_size
 use Rattle.frame_rows.specs.Adding.{IsAdding, IsAppended, IsKeptWhole}
 use Rattle.frame_rows.specs.Bodies.{Grows, Says}
 use Rattle.frame_rows.specs.BodyRuns.{IsRunning, limits_of, table_with}
-use Rattle.frame_rows.specs.BodySteps.{IsStateAt}
+use Rattle.frame_rows.specs.BodySteps.{HasInitial, IsStateAt}
 use Rattle.frame_rows.specs.KeptRows.{IsLonger, Kept, KeptRows}
 use Rattle.frame_rows.specs.RowValue.{RowValue}
 use Rattle.frame_rows.specs.Rows.{IsRowOf}
@@ -26,9 +26,8 @@ use Rattle.frame_rows.specs.declared.row_table.RowLimits.{RowLimits}
 use Rattle.frame_rows.specs.declared.row_table.TableRow.{TableRow}
 use Rattle.frame_rows.specs.declared.rule.CfaRule.{CfaRule as CodedCfa}
 use Rattle.frame_rows.proofs.Adding.{begin}
-use Rattle.frame_rows.proofs.Parts.{as_long}
 use Rattle.frame_rows.proofs.Pushed.{closed_at_start}
-use Rattle.frame_rows.proofs.RunSteps.{bodied_longer, grows_on, kept_same}
+use Rattle.frame_rows.proofs.RunSteps.{kept_same}
 use Rattle.frame_rows.proofs.SliceReading.{all_left}
 
 coded : (o : Option CodedCfa) (r : CfaRule) → option_map cfa_meaning o ≡ Some r → (c : CodedCfa) × (o ≡ Some c) × (cfa_meaning c ≡ r)
@@ -83,7 +82,7 @@ module _ (old new : List (Result RowValue Fault)) (g : Grows old new) (rows : Li
       ∙ ap (λ (c : ℕ). let t : KeptRows = record { rows = map (kept_in old) rows; row_count = c; rule_count = rule_count } in t) same
 
   module _ (start end : ℕ) (common : Program) (k : Coding) (own : Input) (first : RowInstructions) (ran : outcome 0 None (from_common []) common ≡ Ok first) (some : start < end) (m : Machine) (rep : Represents start m (from_common common.instructions))
-      (row : RowValue) (is : IsRowOf row (from_common common.instructions)) (s : Walker) (there : Says new s.place (Ok row)) (here : s.location ≡ start) (free : s.remembered ≡ None) (rest : s.rest.now ≡ own.bytes) (rules : s.rule_count ≡ rule_count) where
+      (row : RowValue) (is : IsRowOf row (from_common common.instructions)) (s : Walker) (there : Says new s.place (Ok row)) (begun : s.first ≡ s.place) (here : s.location ≡ start) (free : s.remembered ≡ None) (rest : s.rest.now ≡ own.bytes) (rules : s.rule_count ≡ rule_count) where
     -- a machine whose row is the one that is given
     stood : Machine
     stood = record m { state = record { cfa = m.state.cfa; rules = row.rules; saved_args_size = row.saved_args_size }; remembered = None }
@@ -115,6 +114,7 @@ module _ (old new : List (Result RowValue Fault)) (g : Grows old new) (rows : Li
             };
             remembered = subst (λ (o : Option ℕ). Rattle.frame_rows.specs.BodySteps.IsMemoryAt new o None) (sym free) tt;
           };
+          initial = subst (λ (p : ℕ). HasInitial new p (from_common common.instructions)) (sym begun) (record { row = row; says = there; rules = is.rules });
           bytes = subst (λ (b : List ℕ). Rattle.frame_rows.specs.Stepping.IsLeft k b (program k own)) (sym rest) (all_left k own);
           movable = λ m. m;
         }

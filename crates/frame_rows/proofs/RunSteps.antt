@@ -1,8 +1,7 @@
 -- What turns make of a description's program that runs from body to body.
-use Rattle.std.proofs.Common.{◌≡◌, ℕ, ◌+◌, ◌-◌, ◌%◌, ◌^◌, ◌<◌, ◌≤◌, Bool, true, List, [], ◌∷◌, ◌++◌, length, map, get_or, Option, Some, None, Result, Ok, Err, refl, sym, ap, ◌∙◌, subst, arith, append_assoc, length-append}
+use Rattle.std.proofs.Common.{◌≡◌, ℕ, ◌+◌, ◌-◌, ◌%◌, ◌^◌, ◌<◌, ◌≤◌, true, List, [], ◌∷◌, ◌++◌, length, map, get_or, Option, Some, None, Result, Ok, Err, refl, sym, ap, ◌∙◌, subst, arith, append_assoc, length-append}
 use Rattle.std.specs.Prelude.{IfSome}
 use Rattle.std.specs.Option.{option_map}
-use Rattle.std.specs.declared.alloc.AllocError.{AllocError}
 use Rattle.std.proofs.lemmas.List.{length-map, map-append}
 use Rattle.unwind_definitions.specs.declared.error.Error.{Error as Fault}
 use Rattle.unwind_definitions.specs.declared.error.Error.TheVariants.{NoCfaRegister}
@@ -11,19 +10,18 @@ use Rattle.unwind_definitions.specs.Row.{RowInstructions, fault_of, from_common,
 use Rattle.frame_rows.specs.Adding.{IsAdding, IsAppended, done}
 use Rattle.frame_rows.specs.Bodies.{kept_answer}
 use Rattle.frame_rows.specs.BodyRuns.{IsRunning, limits_of, table_with}
-use Rattle.frame_rows.specs.BodySteps.{IsMemoryAt, IsStateAt}
+use Rattle.frame_rows.specs.BodySteps.{HasInitial, IsMemoryAt, IsStateAt}
 use Rattle.frame_rows.specs.KeptRows.{Ascends, Kept, KeptRows, answer_rule_count, location_of}
 use Rattle.frame_rows.specs.RowValue.{RowValue}
 use Rattle.frame_rows.specs.Rows.{IsLast}
 use Rattle.frame_rows.specs.Rules.{cfa_meaning}
 use Rattle.frame_rows.specs.Running.{Represents, outcome, push}
-use Rattle.frame_rows.specs.Stepping.{IsLeft, IsWithin, StandsFor, TakesTurn}
+use Rattle.frame_rows.specs.Stepping.{IsLeft, IsWithin, TakesTurn}
 use Rattle.frame_rows.specs.Stretches.{BeginsWith, IsStill, IsStretch}
 use Rattle.frame_rows.specs.TableRows.{IsPushed, Keeps, kept_in}
 use Rattle.frame_rows.specs.declared.body_run.BodyRun.{BodyRun as Walker}
 use Rattle.frame_rows.specs.declared.machine.Machine.{Machine}
 use Rattle.frame_rows.specs.declared.row_table.TableRow.{TableRow}
-use Rattle.frame_rows.specs.declared.stretch.Turn.{Turn}
 use Rattle.frame_rows.specs.declared.stretch.Turn.TheVariants as turn
 use Rattle.std.specs.List.{AllByRecursion}
 use Rattle.frame_rows.specs.Adding.{IsKeptWhole}
@@ -33,10 +31,18 @@ use Rattle.frame_rows.specs.Stretches.{IsLastStretch}
 use Rattle.frame_rows.specs.TableRows.{HasBody}
 use Rattle.frame_rows.specs.declared.machine.RowState.{RowState}
 use Rattle.frame_rows.proofs.Adding.{kept_at_end, kept_on, kept_past, kept_whole}
-use Rattle.frame_rows.proofs.BodySteps.{at_longer, state_longer, within_longer}
+use Rattle.frame_rows.proofs.BodySteps.{at_longer, initial_longer, state_longer, within_longer}
 use Rattle.frame_rows.proofs.Moving.{movable_none}
 use Rattle.frame_rows.proofs.SliceReading.{none_left}
 use Rattle.frame_rows.proofs.StretchSteps.{begun, ends, further, leads_further, led_on}
+
+-- instructions don't change what the initial rules are, nor does it matter which stand for a machine
+module _ (bodies : List (Result RowValue Fault)) (place : ℕ) where
+  initial_push : (run : RowInstructions) (i : Instruction) → HasInitial bodies place run → HasInitial bodies place (push run i)
+  initial_push run i h = record { row = h.row; says = h.says; rules = h.rules }
+
+  initial_same : (start : ℕ) (m : Machine) (run other : RowInstructions) → Represents start m run → Represents start m other → HasInitial bodies place run → HasInitial bodies place other
+  initial_same start m run other one rep h = record { row = h.row; says = h.says; rules = λ c. h.rules c ∙ sym (one.initial c) ∙ rep.initial c }
 
 -- how far a location is from a start, by words
 pub far_from : (start there here : ℕ) → there ≡ here → start ≤ here → here < 2 ^ 64 → (there + (2 ^ 64 - start)) % 2 ^ 64 ≡ here - start
@@ -70,8 +76,8 @@ module _ (start end : ℕ) (common own : Program) (old : KeptRows) where
       }
 
   module _ (k : Coding) (bodies : List (Result RowValue Fault)) (rows : List TableRow) where
-    pub ran_on : (s new : Walker) (r : IsRunning start end common own old k bodies rows s) → TakesTurn bodies k start r.now r.left turn.Ran new → new.location ≡ s.location → new.rule_count ≡ s.rule_count → IsRunning start end common own old k bodies rows new
-    ran_on s new r t here rules = record {
+    pub ran_on : (s new : Walker) (r : IsRunning start end common own old k bodies rows s) → TakesTurn bodies k start r.now r.left turn.Ran new → new.location ≡ s.location → new.first ≡ s.first → new.rule_count ≡ s.rule_count → IsRunning start end common own old k bodies rows new
+    ran_on s new r t here same rules = record {
       now = push r.now t.takes.by;
       left = t.rest;
       machine = t.machine;
@@ -80,6 +86,7 @@ module _ (start end : ℕ) (common own : Program) (old : KeptRows) where
           (adding_still s.location r.now r.left t.rest t.takes.by _ r.adding t.takes.first t.takes.moves.0 t.takes.moves.1));
       represents = t.takes.moves.2;
       stands = t.stands;
+      initial = subst (λ (p : ℕ). HasInitial bodies p (push r.now t.takes.by)) (sym same) (initial_push bodies s.first r.now t.takes.by r.initial);
       bytes = t.left;
       movable = λ m. r.movable (t.movable m);
     }
@@ -129,8 +136,8 @@ module _ (start end : ℕ) (common own : Program) (old : KeptRows) where
       pub led_past : end ≤ next → IsAppended start end common own old (limits_of more) more
       led_past past = kept_past start end common own old first ran s.location r.now r.left table r.adding (limits_of more) t.machine t.rest more next stretch keeps past
 
-      pub led_further : (then : Walker) → next < end → then.location ≡ next → then.place ≡ new.place → then.remembered ≡ new.remembered → then.rule_count ≡ s.rule_count + n → then.rest.now ≡ new.rest.now → IsRunning start end common own old k bodies (rows ++ row ∷ []) then
-      led_further then inside there place memory rules bytes = record {
+      pub led_further : (then : Walker) → next < end → then.location ≡ next → then.place ≡ new.place → then.remembered ≡ new.remembered → then.first ≡ s.first → then.rule_count ≡ s.rule_count + n → then.rest.now ≡ new.rest.now → IsRunning start end common own old k bodies (rows ++ row ∷ []) then
+      led_further then inside there place memory same rules bytes = record {
         now = push stretch.now stretch.by;
         left = t.rest;
         machine = record t.machine { location = next };
@@ -143,6 +150,8 @@ module _ (start end : ℕ) (common own : Program) (old : KeptRows) where
           state = subst (λ p. IsStateAt bodies p t.machine.state) (sym place) t.stands.state;
           remembered = subst (λ p. IsMemoryAt bodies p t.machine.remembered) (sym memory) t.stands.remembered;
         };
+        initial = subst (λ (p : ℕ). HasInitial bodies p (push stretch.now stretch.by)) (sym same)
+            (initial_push bodies s.first stretch.now stretch.by (initial_same bodies s.first start t.machine r.now stretch.now t.takes.moves.3 stretch.represents r.initial));
         bytes = subst (λ (b : List ℕ). IsLeft k b t.rest) (sym bytes) t.left;
         movable = λ m. r.movable (t.movable m);
       }
@@ -228,6 +237,7 @@ module _ (old new : List (Result RowValue Fault)) (g : Grows old new) where
     adding = subst (λ (l : List Kept). IsAdding start end common own table s.location r.now r.left (record { rows = l; row_count = table.row_count + (length rows - length table.rows); rule_count = s.rule_count })) (kept_same rows all) r.adding;
     represents = r.represents;
     stands = record { here = r.stands.here; state = state_longer old new g s.place r.machine.state r.stands.state; remembered = memory_longer s.remembered r.machine.remembered r.stands.remembered };
+    initial = initial_longer old new g s.first r.now r.initial;
     bytes = r.bytes;
     movable = r.movable;
   }
@@ -237,7 +247,7 @@ module _ (old new : List (Result RowValue Fault)) (g : Grows old new) where
   within_some (Some p) w = within_longer old new g p w
 
   pub within_on : (s : Walker) → IsWithin old s → IsWithin new s
-  within_on s w = (within_longer old new g s.place w.0, within_some s.remembered w.1)
+  within_on s w = (within_longer old new g s.place w.0, within_longer old new g s.first w.1, within_some s.remembered w.2)
 
 pub grows_on : (a b c : List (Result RowValue Fault)) → Grows a b → Grows b c → Grows a c
 grows_on a b c first second = record {

@@ -1,12 +1,12 @@
 -- Machines for which a run from body to body stands, after an instruction.
-use Rattle.std.proofs.Common.{◌≡◌, ℕ, ◌+◌, ◌^◌, ◌<◌, ◌≤◌, Bool, true, false, List, [], ◌∷◌, Option, Some, None, Result, Ok, refl, sym, ap, subst, ◌∙◌, inl, arith}
+use Rattle.std.proofs.Common.{◌≡◌, ℕ, ◌+◌, ◌^◌, ◌<◌, true, false, List, Option, Some, None, Result, refl, sym, ap, subst, ◌∙◌, arith}
 use Rattle.std.specs.Prelude.{is_some}
 use Rattle.unwind_definitions.specs.declared.error.Error.{Error as Fault}
-use Rattle.unwind_definitions.specs.Instructions.{Rule, Instruction, Nop, Remember, Restore, Advance, Cfa, CfaColumn, CfaOffset, Write}
+use Rattle.unwind_definitions.specs.Instructions.{Rule, Instruction, Nop, Remember, Restore, Advance, Cfa, CfaColumn, CfaOffset, Reset, Write}
 use Rattle.unwind_definitions.specs.Row.{RowInstructions}
-use Rattle.frame_rows.specs.BodySteps.{IsStateAt, IsMemoryAt, MakesBody}
+use Rattle.frame_rows.specs.BodySteps.{HasInitial, IsStateAt, IsMemoryAt, MakesBody, RestoresBody}
 use Rattle.frame_rows.specs.RowValue.{RowValue}
-use Rattle.frame_rows.specs.Running.{Represents, push}
+use Rattle.frame_rows.specs.Running.{Represents}
 use Rattle.frame_rows.specs.Stepping.{StandsAfter, StandsFor}
 use Rattle.frame_rows.specs.declared.machine.Machine.{Machine}
 use Rattle.frame_rows.specs.declared.machine.RowState.{RowState}
@@ -73,6 +73,15 @@ module _ (bodies : List (Result RowValue Fault)) where
     pub stands_column : (q : ℕ) (new : Walker) → MakesBody bodies (CfaColumn q) s.place new.place → new.location ≡ s.location → new.remembered ≡ s.remembered → StandsAfter bodies start run (CfaColumn q) turn.Ran new
     stands_column q new makes here memory =
         let made = makes.makes start m run rep st.state in
+        record {
+          machine = record m { state = made.0 };
+          moves = (tt, made.2, made.3);
+          stands = record { here = st.here ∙ sym here; state = made.1; remembered = subst (λ p. IsMemoryAt bodies p m.remembered) (sym memory) st.remembered };
+        }
+
+    pub stands_reset : (q : ℕ) → HasInitial bodies s.first run → (new : Walker) → RestoresBody bodies q s.first s.place new.place → new.location ≡ s.location → new.remembered ≡ s.remembered → StandsAfter bodies start run (Reset q) turn.Ran new
+    stands_reset q initial new makes here memory =
+        let made = makes.makes start m run initial rep st.state in
         record {
           machine = record m { state = made.0 };
           moves = (tt, made.2, made.3);

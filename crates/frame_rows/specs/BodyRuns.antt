@@ -5,6 +5,7 @@ use Rattle.unwind_definitions.specs.declared.error.Error.{Error as Fault}
 use Rattle.unwind_definitions.specs.Instructions.{Coding, Program}
 use Rattle.unwind_definitions.specs.Row.{RowInstructions}
 use Rattle.frame_rows.specs.Adding.{IsAdding, IsAppended, IsKeptWhole}
+use Rattle.frame_rows.specs.BodySteps.{HasInitial}
 use Rattle.frame_rows.specs.KeptRows.{KeptRows}
 use Rattle.frame_rows.specs.Movable.{IsMovable}
 use Rattle.frame_rows.specs.RowValue.{RowValue}
@@ -39,6 +40,7 @@ pub record IsRunning (start end : ℕ) (common own : Program) (old : KeptRows) (
   pub adding : IsAdding start end common own old s.location now left (table_with old bodies rows s.rule_count)
   pub represents : Represents start machine now
   pub stands : StandsFor bodies s machine
+  pub initial : HasInitial bodies s.first now
   pub bytes : IsLeft coding s.rest.now left
   pub movable : IsMovable left → IsMovable own
 

@@ -2,10 +2,11 @@
 use Rattle.std.specs.Prelude.{◌≡◌, ℕ, ◌<◌, List, length, slice_index_or, Option, Some, None, Result, Ok}
 use Rattle.std.specs.List.{AllByRecursion}
 use Rattle.unwind_definitions.specs.declared.error.Error.{Error as Fault}
-use Rattle.unwind_definitions.specs.Instructions.{Instruction, Offset, Write, CfaOffset}
-use Rattle.unwind_definitions.specs.Row.{ColumnAndOffset, RowInstructions, fault_of}
+use Rattle.unwind_definitions.specs.Instructions.{Instruction, Offset, Write, CfaOffset, Reset}
+use Rattle.unwind_definitions.specs.Row.{ColumnAndOffset, RowInstructions, fault_of, initial_rule}
 use Rattle.frame_rows.specs.Bodies.{Says, kept_answer}
 use Rattle.frame_rows.specs.RowValue.{RowValue}
+use Rattle.frame_rows.specs.Rules.{rule_in}
 use Rattle.frame_rows.specs.Running.{Represents, push}
 use Rattle.frame_rows.specs.declared.known_steps.KnownStep.{KnownStep}
 use Rattle.frame_rows.specs.declared.machine.Machine.{Machine}
@@ -31,6 +32,17 @@ pub record MakesBody (bodies : List (Result RowValue Fault)) (i : Instruction) (
   pub there : to < length bodies
   pub makes : (start : ℕ) (m : Machine) (run : RowInstructions) → Represents start m run → IsStateAt bodies from m.state → (t : RowState) × IsStateAt bodies to t × (fault_of start run i ≡ None) × Represents start (record m { state = t }) (push run i)
 
+-- the body at a place has the initial rules of a run
+pub record HasInitial (bodies : List (Result RowValue Fault)) (place : ℕ) (run : RowInstructions) : Type 0 where
+  pub row : RowValue
+  pub says : Says bodies place (Ok row)
+  pub rules : (c : ℕ) → rule_in row.rules c ≡ initial_rule run c
+
+-- where a machine's row is one body, it is another one once a column has its initial rule again, which a first body has
+pub record RestoresBody (bodies : List (Result RowValue Fault)) (column first from to : ℕ) : Type 0 where
+  pub there : to < length bodies
+  pub makes : (start : ℕ) (m : Machine) (run : RowInstructions) → HasInitial bodies first run → Represents start m run → IsStateAt bodies from m.state → (t : RowState) × IsStateAt bodies to t × (fault_of start run (Reset column) ≡ None) × Represents start (record m { state = t }) (push run (Reset column))
+
 -- the body at a place says what another one did, but for the CFA, which is a column and an offset
 pub record SaysWithCfa (old new : List (Result RowValue Fault)) (column offset place to : ℕ) : Type 0 where
   pub row : RowValue
@@ -45,9 +57,8 @@ offset_step step = CfaOffset step.offset
 abbrev pub save_step : KnownStep → Instruction
 save_step step = Write step.register.0 (Offset step.offset)
 
-abbrev pub IsStepOf : (KnownStep → Instruction) → List (Result RowValue Fault) → Option KnownStep → Type 0
-IsStepOf kind bodies None = Unit {0}
-IsStepOf kind bodies (Some step) = MakesBody bodies (kind step) step.from step.to
+abbrev pub IsStepOf : (KnownStep → Instruction) → List (Result RowValue Fault) → KnownStep → Type 0
+IsStepOf kind bodies step = MakesBody bodies (kind step) step.from step.to
 
-abbrev pub AreSteps : (KnownStep → Instruction) → List (Result RowValue Fault) → List (Option KnownStep) → Type 0
+abbrev pub AreSteps : (KnownStep → Instruction) → List (Result RowValue Fault) → List KnownStep → Type 0
 AreSteps kind bodies slots = AllByRecursion (IsStepOf kind bodies) slots

@@ -16,6 +16,7 @@ pub mod BodySteps
 pub mod TableRows
 pub mod SameRules
 pub mod BegunPrograms
+pub mod FirstRows
 pub mod Begun
 pub mod Movable
 pub mod KnownRows

@@ -1,5 +1,5 @@
 -- Running a program from body to body. No public clause cites this.
-use Rattle.std.specs.Prelude.{◌≡◌, ℕ, ◌+◌, ◌*◌, ◌^◌, ◌<◌, ◌≤◌, List, length, Option, Some, None, Result, IfSome}
+use Rattle.std.specs.Prelude.{◌≡◌, ℕ, ◌+◌, ◌*◌, ◌^◌, ◌<◌, ◌≤◌, List, length, Result, IfSome}
 use Rattle.unwind_definitions.specs.declared.error.Error.{Error as Fault}
 use Rattle.unwind_definitions.specs.Input.{Input}
 use Rattle.unwind_definitions.specs.Instructions.{Coding, Instruction, Program, program_from}
@@ -7,7 +7,6 @@ use Rattle.unwind_definitions.specs.Row.{RowInstructions}
 use Rattle.frame_rows.specs.BodySteps.{IsStateAt, IsMemoryAt}
 use Rattle.frame_rows.specs.Movable.{IsMovable}
 use Rattle.frame_rows.specs.RowValue.{RowValue}
-use Rattle.frame_rows.specs.Running.{Represents}
 use Rattle.frame_rows.specs.Turns.{Moves, TakesFirst}
 use Rattle.frame_rows.specs.declared.machine.Machine.{Machine}
 use Rattle.frame_rows.specs.declared.body_run.BodyRun.{BodyRun as Walker}
@@ -22,7 +21,7 @@ pub record StandsFor (bodies : List (Result RowValue Fault)) (s : Walker) (m : M
 
 -- these places are among those of all bodies
 abbrev pub IsWithin : List (Result RowValue Fault) → Walker → Type 0
-IsWithin bodies s = (s.place < length bodies) × IfSome s.remembered (λ place. place < length bodies)
+IsWithin bodies s = (s.place < length bodies) × (s.first < length bodies) × IfSome s.remembered (λ place. place < length bodies)
 
 -- the rules of the rows that its bytes may still make can be counted, of each at most 32
 abbrev pub HasRoom : Walker → Type 0

@@ -1,6 +1,6 @@
 //! What the programs of common information entries ended with. DWARF 5 section 6.4.1.
 
-ghost use Rattle.std.specs.Prelude.{[], ◌≡◌};
+ghost use Rattle.std.specs.Prelude.{[], ◌≡◌, None, Some};
 ghost use Rattle.frame_rows.specs.BegunPrograms.{before_last, last};
 ghost use Rattle.frame_rows.specs.KnownRows.{Notes};
 
@@ -15,6 +15,8 @@ use unwind_definitions::Error;
 pub(crate) struct BegunProgram<'a> {
     pub(crate) state: RowState<'a>,
     pub(crate) fault: Option<Error>,
+    /// The index of a row of the table that says what it ended with, if one is known.
+    pub(crate) first_row: Option<usize>,
     pub(crate) known: KnownPrograms<'a>,
 }
 
@@ -24,6 +26,7 @@ impl<'a> BegunProgram<'a> {
         BegunProgram {
             state: RowState::new(),
             fault: None,
+            first_row: None,
             known: KnownPrograms::new(alloc),
         }
     }
@@ -32,10 +35,12 @@ impl<'a> BegunProgram<'a> {
     fn put(&mut self, machine: &Machine<'a>, fault: Option<Error>)
         ensures state { self.new.state ≡ machine.now.state }
         ensures fault { self.new.fault ≡ fault }
+        ensures first { self.new.first_row ≡ None }
         ensures blank { self.new.known ≡ [] }
     {
         machine.put_state(&mut self.state);
         self.fault = fault;
+        self.first_row = None;
         self.known.clear();
     }
 }
@@ -83,6 +88,7 @@ impl<'a> BegunPrograms<'a> {
     pub(crate) fn put(&mut self, machine: &Machine<'a>, fault: Option<Error>)
         ensures state { (last self.new).state ≡ machine.now.state }
         ensures fault { (last self.new).fault ≡ fault }
+        ensures first { (last self.new).first_row ≡ None }
         ensures blank { (last self.new).known ≡ [] }
         ensures before { before_last self.new ≡ before_last self.old }
     {
@@ -90,6 +96,21 @@ impl<'a> BegunPrograms<'a> {
             self.second.put(machine, fault);
         } else {
             self.first.put(machine, fault);
+        }
+    }
+
+    /// Notes the index of a row of the table that says what the last one ended with.
+    pub(crate) fn note_first(&mut self, row: usize)
+        ensures first { (last self.new).first_row ≡ Some row }
+        ensures state { (last self.new).state ≡ (last self.old).state }
+        ensures fault { (last self.new).fault ≡ (last self.old).fault }
+        ensures known { (last self.new).known ≡ (last self.old).known }
+        ensures before { before_last self.new ≡ before_last self.old }
+    {
+        if self.is_swapped {
+            self.second.first_row = Some(row);
+        } else {
+            self.first.first_row = Some(row);
         }
     }
 
@@ -101,6 +122,7 @@ impl<'a> BegunPrograms<'a> {
     pub(crate) fn note(&mut self, known: KnownProgram<'a>) -> Result<(), AllocError>
         ensures state { (last self.new).state ≡ (last self.old).state }
         ensures fault { (last self.new).fault ≡ (last self.old).fault }
+        ensures first { (last self.new).first_row ≡ (last self.old).first_row }
         ensures notes { Notes (last self.old).known known.entry (last self.new).known }
         ensures before { before_last self.new ≡ before_last self.old }
     {

@@ -8,6 +8,7 @@ ghost use Rattle.frame_rows.specs.InstructionViews.{coding_in, short_meaning};
 ghost use Rattle.unwind_definitions.specs.Row.{from_common};
 ghost use Rattle.frame_rows.specs.Bodies.{Grows};
 ghost use Rattle.frame_rows.specs.BodyRuns.{IsRunning, RunsTo};
+ghost use Rattle.frame_rows.specs.BodySteps.{HasInitial};
 ghost use Rattle.frame_rows.specs.KeptRows.{KeptRows};
 ghost use Rattle.frame_rows.specs.Running.{Represents, outcome};
 ghost use Rattle.frame_rows.specs.TableRows.{HasBody};
@@ -31,6 +32,8 @@ pub(crate) struct BodyRun<'a> {
     pub(crate) rest: &'a [u8],
     pub(crate) location: u64,
     pub(crate) place: usize,
+    /// Where the body of the row stands that the run began with: it has the initial rules.
+    pub(crate) first: usize,
     pub(crate) remembered: Option<usize>,
     /// How many rules the rows so far have, with those of all others.
     pub(crate) rule_count: u64,
@@ -49,6 +52,7 @@ impl<'a> BodyRun<'a> {
         ensures within { IsWithin bodies.now self.old → IsWithin bodies.now self.new }
         ensures fewer { IfSome result (λ _. length self.new.rest.now < length self.old.rest.now) }
         ensures none { result ≡ None → self.new ≡ self.old }
+        ensures first { self.new.first ≡ self.old.first }
         ensures location { self.new.location ≡ self.old.location }
         ensures rules { self.new.rule_count ≡ self.old.rule_count }
     {
@@ -69,6 +73,7 @@ impl<'a> BodyRun<'a> {
         ensures within { IsWithin bodies.now self.old → IsWithin bodies.now self.new }
         ensures none { result ≡ None → self.new ≡ self.old }
         ensures rest { self.new.rest ≡ self.old.rest }
+        ensures first { self.new.first ≡ self.old.first }
         ensures location { self.new.location ≡ self.old.location }
         ensures rules { self.new.rule_count ≡ self.old.rule_count }
     {
@@ -119,8 +124,8 @@ pub(crate) enum RunEnd {
 }
 
 impl<'a> BodyRun<'a> {
-    // Runs the next instruction where it makes a body, which is known from then on. `false` where it
-    // makes none: then it isn't read.
+    // Runs the next instruction where it makes a body. What a new offset of the CFA or a saved register
+    // makes is known from then on. `false` where it makes none: then it isn't read.
     #[inline(never)]
     fn learn(
         &mut self,
@@ -133,10 +138,12 @@ impl<'a> BodyRun<'a> {
         ensures grows { Grows bodies.old bodies.new }
         ensures turns { result ≡ Ok true → (start : ℕ) (m : Machine) (run : RowInstructions)
             (q : Program) → Represents start m run → StandsFor bodies.new self.old m →
+            HasInitial bodies.new self.old.first run →
             IsLeft (coding_in coding.entry) self.old.rest.now q →
             TakesTurn bodies.new (coding_in coding.entry) start run q Turn.Ran self.new }
         ensures within { IfOk result (λ _. IsWithin bodies.new self.new) }
         ensures fewer { length self.new.rest.now ≤ length self.old.rest.now }
+        ensures first { self.new.first ≡ self.old.first }
         ensures location { self.new.location ≡ self.old.location }
         ensures rules { self.new.rule_count ≡ self.old.rule_count }
     {
@@ -151,7 +158,7 @@ impl<'a> BodyRun<'a> {
                 Ok(self.move_to(made, input.bytes()))
             }
             Some(_) => Ok(false),
-            None => self.learn_cfa(bodies, known, coding),
+            None => self.run_other(bodies, known, coding),
         }
     }
 
@@ -161,6 +168,7 @@ impl<'a> BodyRun<'a> {
             (self.new.rest.now ≡ rest.now)) }
         ensures stays { made ≡ None → (result ≡ false) × (self.new ≡ self.old) }
         ensures remembered { self.new.remembered ≡ self.old.remembered }
+        ensures first { self.new.first ≡ self.old.first }
         ensures location { self.new.location ≡ self.old.location }
         ensures rules { self.new.rule_count ≡ self.old.rule_count }
     {
@@ -174,9 +182,10 @@ impl<'a> BodyRun<'a> {
         }
     }
 
-    // The same of an instruction that defines the CFA's register.
+    // The same of an instruction that defines the CFA's register or restores a register's initial rule.
+    // What it makes isn't noted.
     #[inline(never)]
-    fn learn_cfa(
+    fn run_other(
         &mut self,
         bodies: &mut SteppedBodies<'a>,
         known: &mut KnownBodies,
@@ -186,10 +195,12 @@ impl<'a> BodyRun<'a> {
         ensures grows { Grows bodies.old bodies.new }
         ensures turns { result ≡ Ok true → (start : ℕ) (m : Machine) (run : RowInstructions)
             (q : Program) → Represents start m run → StandsFor bodies.new self.old m →
+            HasInitial bodies.new self.old.first run →
             IsLeft (coding_in coding.entry) self.old.rest.now q →
             TakesTurn bodies.new (coding_in coding.entry) start run q Turn.Ran self.new }
         ensures within { IfOk result (λ _. IsWithin bodies.new self.new) }
         ensures fewer { length self.new.rest.now ≤ length self.old.rest.now }
+        ensures first { self.new.first ≡ self.old.first }
         ensures location { self.new.location ≡ self.old.location }
         ensures rules { self.new.rule_count ≡ self.old.rule_count }
     {
@@ -208,13 +219,17 @@ impl<'a> BodyRun<'a> {
                 let made = bodies.make_cfa_register(known, self.place, register)?;
                 Ok(self.move_to(made, rest))
             }
+            Ok(CallFrameInstruction::RestoreInitialRule(register)) => {
+                let made = bodies.make_restore(known, self.first, self.place, register)?;
+                Ok(self.move_to(made, rest))
+            }
             _ => Ok(false),
         }
     }
 }
 
 // Adds row after row as far as it is known what the instructions make.
-#[inline(never)]
+#[inline(always)]
 fn run_known<'a>(
     bodies: &SteppedBodies<'a>,
     rows: &mut Vec<TableRow>,
@@ -298,9 +313,9 @@ fn finish<'a>(
     Ok(RunEnd::Ended)
 }
 
-/// Adds the rows of a program that runs from body to body, as far as instructions make bodies: what
-/// they make is known from then on.
-#[inline(never)]
+/// Adds the rows of a program that runs from body to body, as far as instructions make bodies. What
+/// new offsets of the CFA and saved registers make is known from then on.
+#[inline(always)]
 pub(crate) fn run_bodies<'a>(
     bodies: &mut SteppedBodies<'a>,
     known: &mut KnownBodies,

@@ -1,12 +1,13 @@
 //! What the rows of a table say, each kept once where many say the same. DWARF 5 section 6.4.1.
 
-ghost use Rattle.std.specs.Prelude.{◌≡◌, ◌<◌, ◌≤◌, ◌++◌, ◌∷◌, [], IfOk, List, OnErr, OnOk, Result};
+ghost use Rattle.std.specs.Prelude.{◌≡◌, ◌<◌, ◌≤◌, ◌++◌, ◌∷◌, [], IfOk, IfSome, List, OnErr, OnOk, Result};
 ghost use Rattle.std.specs.Prelude.{ℕ, Some, length, map, slice_index_or, true};
 ghost use Rattle.unwind_definitions.specs.declared.error.Error.{Error as Fault};
 ghost use Rattle.unwind_definitions.specs.Instructions.{Rule};
 ghost use Rattle.frame_rows.specs.RowValue.{RowValue};
 ghost use Rattle.frame_rows.specs.Rules.{entry_of, rule_meaning, AscendsFrom};
 ghost use Rattle.frame_rows.specs.Bodies.{Grows, IsInRules, Says, body_in, kept_answer};
+ghost use Rattle.frame_rows.specs.BodySteps.{SaysWithCfa};
 ghost use Rattle.frame_rows.specs.KeptRows.{Ascends, answer_rule_count};
 ghost use Rattle.frame_rows.specs.SameRules.{HasRulesOf, IsBodyWith};
 
@@ -186,8 +187,62 @@ impl<'a> RowBodies<'a> {
         self.keep_other(known, number, cfa, rules, saved_args_size, like)
     }
 
-    // The same where it isn't the first one of its number. Not inlined, as it is for few rows of a
-    // large table.
+    /// Where a body stands that says what the one at a place does, but for the CFA. One that isn't found
+    /// is added, and known from then on: it has its rules where the other has them. `None` where that
+    /// one is a fault.
+    pub(crate) fn with_cfa(
+        &mut self,
+        known: &mut KnownBodies,
+        place: usize,
+        register: Register,
+        offset: u64,
+    ) -> Result<Option<usize>, AllocError>
+        requires { place < length self.old }
+        ensures grows { Grows self.old self.new }
+        ensures says { IfOk result (λ made. IfSome made (λ to.
+            SaysWithCfa self.old self.new register.0 offset place to)) }
+    {
+        let Ok(row) = self.get(place) else {
+            return Ok(None);
+        };
+        let cfa = Ok(CfaRule::RegisterAndOffset { register, offset });
+        let size = row.saved_args_size();
+        let number = number_of(cfa, row.entries());
+        if let Some(found) = self.find(known, number, cfa, row.entries(), size, Some(place)) {
+            return Ok(Some(found));
+        }
+        let added = self.bodies.len();
+        self.add_like(cfa, place, size)?;
+        known.note(number, added)?;
+        Ok(Some(added))
+    }
+
+    // Where a body of a number stands that says this, if it is known.
+    #[inline(always)]
+    fn find(
+        &self,
+        known: &KnownBodies,
+        number: usize,
+        cfa: Result<CfaRule<'a>, Error>,
+        rules: &[(Register, RegisterRule<'a>)],
+        saved_args_size: u64,
+        like: Option<usize>,
+    ) -> Option<usize>
+        requires { IsBodyWith self.now like (map entry_of rules.now) }
+        ensures { IfSome result (λ place. Says self.now place
+            (kept_answer cfa.entry (map entry_of rules.now) saved_args_size)) }
+    {
+        for turn in 0..TURNS {
+            let place = known.get(number.wrapping_add(turn))?;
+            if self.says(place, cfa, rules, saved_args_size, like) {
+                return Some(place);
+            }
+        }
+        None
+    }
+
+    // Where a body stands, as `keep` says, where it isn't the first one of its number. Not inlined, as
+    // it is for few rows of a large table.
     #[inline(never)]
     fn keep_other(
         &mut self,
@@ -257,9 +312,9 @@ impl<'a> RowBodies<'a> {
         }
     }
 
-    // Whether the body at a place says this.
+    /// Whether the body at a place says this.
     #[inline(always)]
-    fn says(
+    pub(crate) fn says(
         &self,
         place: usize,
         cfa: Result<CfaRule<'a>, Error>,

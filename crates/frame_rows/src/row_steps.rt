@@ -1,14 +1,15 @@
 //! Bodies of rows, and what instructions make of them. DWARF 5 section 6.4.2.
 
-ghost use Rattle.std.specs.Prelude.{[], ◌≡◌, ◌<◌, ◌≤◌, IfOk, IfSome, List, Result, length, map};
+ghost use Rattle.std.specs.Prelude.{[], ◌≡◌, ◌<◌, ◌≤◌, IfOk, IfSome, List, Ok, Result, length, map, true};
 ghost use Rattle.std.specs.Prelude.{slice_index_or};
+ghost use Rattle.std.specs.Option.{option_map};
 ghost use Rattle.unwind_definitions.specs.declared.error.Error.{Error as Fault};
 ghost use Rattle.unwind_definitions.specs.Instructions.{Cfa, CfaColumn, CfaOffset, Offset, Write};
 ghost use Rattle.frame_rows.specs.Bodies.{Grows, Says, kept_answer};
-ghost use Rattle.frame_rows.specs.BodySteps.{MakesBody, SaysWithCfa};
+ghost use Rattle.frame_rows.specs.BodySteps.{MakesBody, RestoresBody, SaysWithCfa};
 ghost use Rattle.frame_rows.specs.KeptRows.{Ascends, answer_rule_count};
 ghost use Rattle.frame_rows.specs.RowValue.{RowValue};
-ghost use Rattle.frame_rows.specs.Rules.{entry_of, AscendsFrom};
+ghost use Rattle.frame_rows.specs.Rules.{entry_of, rule_in, rule_meaning, AscendsFrom};
 ghost use Rattle.frame_rows.specs.SameRules.{IsBodyWith};
 
 use crate::known_steps::{KnownStep, KnownSteps};
@@ -89,6 +90,15 @@ impl<'a> SteppedBodies<'a> {
         self.bodies.rule_count(place)
     }
 
+    /// Whether the body at a place is a row.
+    pub(crate) fn says(&self, place: usize, row: RowRef<'_, 'a>) -> bool
+        ensures { result ≡ true → Says self.now place (Ok row.entry) }
+    {
+        let cfa = Ok(row.cfa());
+        self.bodies
+            .says(place, cfa, row.entries(), row.saved_args_size(), None)
+    }
+
     /// Where a body stands, as [`RowBodies::keep`] says.
     #[inline(always)]
     pub(crate) fn keep(
@@ -114,7 +124,7 @@ impl<'a> SteppedBodies<'a> {
     pub(crate) fn with_offset(&self, place: usize, offset: u64) -> Option<usize>
         ensures { IfSome result (λ to. MakesBody self.now (CfaOffset offset) place to) }
     {
-        match self.offsets.find(place, Register(0), offset) {
+        match self.offsets.find_offset(place, offset) {
             Some(step) => Some(step.to),
             None => None,
         }
@@ -146,9 +156,6 @@ impl<'a> SteppedBodies<'a> {
         ensures makes { IfOk result (λ made. IfSome made (λ to.
             MakesBody self.new (CfaOffset offset) place to)) }
     {
-        if let Some(step) = self.offsets.find_beside(place, Register(0), offset) {
-            return Ok(Some(step.to));
-        }
         let Ok(row) = self.bodies.get(place) else {
             return Ok(None);
         };
@@ -159,12 +166,9 @@ impl<'a> SteppedBodies<'a> {
         else {
             return Ok(None);
         };
-        let size = row.saved_args_size();
-        self.room.put(row.entries());
-        let cfa = CfaRule::RegisterAndOffset { register, offset };
-        let to = self
-            .bodies
-            .keep(known, Ok(cfa), self.room.entries(), size, Some(place))?;
+        let Some(to) = self.with_cfa(known, place, register, offset)? else {
+            return Ok(None);
+        };
         self.offsets.note(KnownStep {
             from: place,
             register: Register(0),
@@ -188,9 +192,6 @@ impl<'a> SteppedBodies<'a> {
         ensures makes { IfOk result (λ made. IfSome made (λ to.
             MakesBody self.new (Write register.0 (Offset offset)) place to)) }
     {
-        if let Some(step) = self.saves.find_beside(place, register, offset) {
-            return Ok(Some(step.to));
-        }
         let Ok(row) = self.bodies.get(place) else {
             return Ok(None);
         };
@@ -261,8 +262,45 @@ impl<'a> SteppedBodies<'a> {
         Ok(Some(to))
     }
 
+    /// Where the body stands that a register's initial rule makes of a body: the rule that the body has
+    /// with which a run began, or none. `None` where it makes none. It isn't noted, as it is of that run
+    /// alone.
+    #[inline(never)]
+    pub(crate) fn make_restore(
+        &mut self,
+        known: &mut KnownBodies,
+        first: usize,
+        place: usize,
+        register: Register,
+    ) -> Result<Option<usize>, AllocError>
+        requires first { first < length self.old }
+        requires place { place < length self.old }
+        ensures grows { Grows self.old self.new }
+        ensures makes { IfOk result (λ made. IfSome made (λ to.
+            RestoresBody self.new register.0 first place to)) }
+    {
+        let Ok(initial) = self.bodies.get(first) else {
+            return Ok(None);
+        };
+        let rule = rule_among(initial.entries(), register);
+        let Ok(row) = self.bodies.get(place) else {
+            return Ok(None);
+        };
+        let cfa = row.cfa();
+        let size = row.saved_args_size();
+        self.room.put(row.entries());
+        let Ok(_reset) = self.room.reset(register, rule) else {
+            return Ok(None);
+        };
+        let to = self
+            .bodies
+            .keep(known, Ok(cfa), self.room.entries(), size, None)?;
+        Ok(Some(to))
+    }
+
     // Where the body stands that says what another one does, but for the CFA. `None` where that one is
     // a fault.
+    #[inline(always)]
     fn with_cfa(
         &mut self,
         known: &mut KnownBodies,
@@ -275,15 +313,25 @@ impl<'a> SteppedBodies<'a> {
         ensures says { IfOk result (λ made. IfSome made (λ to.
             SaysWithCfa self.old self.new register.0 offset place to)) }
     {
-        let Ok(row) = self.bodies.get(place) else {
-            return Ok(None);
-        };
-        let size = row.saved_args_size();
-        self.room.put(row.entries());
-        let cfa = CfaRule::RegisterAndOffset { register, offset };
-        let to = self
-            .bodies
-            .keep(known, Ok(cfa), self.room.entries(), size, Some(place))?;
-        Ok(Some(to))
+        self.bodies.with_cfa(known, place, register, offset)
+    }
+}
+
+// The rule of a register among those of a body.
+fn rule_among<'a>(
+    entries: &[(Register, RegisterRule<'a>)],
+    register: Register,
+) -> Option<RegisterRule<'a>>
+    ensures { option_map rule_meaning result ≡ rule_in (map entry_of entries.now) register.0 }
+{
+    match entries {
+        [] => None,
+        [entry, rest @ ..] => {
+            if entry.0.0 == register.0 {
+                Some(entry.1)
+            } else {
+                rule_among(rest, register)
+            }
+        }
     }
 }

@@ -13,13 +13,16 @@ ghost use Rattle.frame_rows.specs.Bodies.{kept_answer};
 ghost use Rattle.unwind_definitions.specs.Instructions.{Program, program};
 ghost use Rattle.unwind_definitions.specs.Row.{from_common};
 ghost use Rattle.encoded_pointers.specs.CursorViews.{at};
+ghost use Rattle.std.specs.List.{AllByRecursion};
+ghost use Rattle.frame_rows.specs.Bodies.{Grows, Says};
 ghost use Rattle.frame_rows.specs.BodyRuns.{AddsRun};
+ghost use Rattle.frame_rows.specs.FirstRows.{IsRowAt, StandsAt};
 ghost use Rattle.frame_rows.specs.InstructionViews.{coding_in};
 ghost use Rattle.frame_rows.specs.Rows.{IsRowOf};
 ghost use Rattle.frame_rows.specs.Running.{Represents, outcome};
 ghost use Rattle.frame_rows.specs.declared.machine.Machine.{Machine};
-ghost use Rattle.std.specs.Prelude.{None, Ok, true};
-ghost use Rattle.frame_rows.specs.TableRows.{HoldsAt, IsLastAt, Pushes};
+ghost use Rattle.std.specs.Prelude.{None, Ok, Some, true};
+ghost use Rattle.frame_rows.specs.TableRows.{HasBody, HoldsAt, IsLastAt, Pushes, kept_in};
 ghost use Rattle.frame_rows.specs.Again.{CountsAgain};
 ghost use Rattle.frame_rows.specs.SameRules.{IsBodyOf, IsRowWith};
 
@@ -35,6 +38,9 @@ use std::alloc::{AllocError, Global};
 use std::marker::Model;
 use unwind_arch::Register;
 use unwind_definitions::Error;
+
+// For how many rows there is room at first.
+const ROOM: usize = 8192;
 
 /// How much a table of rows may hold.
 #[derive(Clone, Copy, Debug, PartialEq, Eq)]
@@ -134,6 +140,22 @@ impl<'a> RowTable<'a> {
         self.rule_count
     }
 
+    /// Makes room for many rows where there are none, so that a list that grows isn't copied again and
+    /// again.
+    ///
+    /// # Errors
+    ///
+    /// Where memory runs out.
+    #[inline(never)]
+    pub(crate) fn make_room(&mut self) -> Result<(), AllocError>
+        ensures { self.new ≡ self.old }
+    {
+        if !self.rows.is_empty() {
+            return Ok(());
+        }
+        self.rows.reserve(ROOM)
+    }
+
     /// Gives back what memory isn't used.
     pub(crate) fn shrink_to_fit(&mut self)
         ensures { self.new ≡ self.old }
@@ -202,14 +224,15 @@ impl<'a> RowTable<'a> {
     }
 
     /// Adds the rows of a description whose program runs from body to body, from the row that its
-    /// common information entry's ended with. None is added where it doesn't run so, or where they
-    /// would be too many, or the code alignment factor or the
-    /// program's length has more than 32 bits.
-    #[inline(never)]
+    /// common information entry's ended with: `first_row` is the index of a row of the table that says
+    /// the same, if one is known. None is added where it doesn't run so, where they would
+    /// be too many, or where the code alignment factor or the program's length has more than 32 bits.
+    #[inline(always)]
     pub(crate) fn add_run(
         &mut self,
         known: &mut KnownBodies,
         row: RowRef<'_, 'a>,
+        first_row: Option<usize>,
         own: Cursor<'a>,
         coding: Coding,
         start: u64,
@@ -223,6 +246,7 @@ impl<'a> RowTable<'a> {
             outcome 0 None (from_common []) common ≡ Ok first →
             Represents start m (from_common common.instructions) →
             IsRowOf row.entry (from_common common.instructions) →
+            IsRowAt self.old.rows first_row row.entry →
             AddsRun limits start end common own self.old result self.new }
     {
         let count = own.len();
@@ -230,17 +254,12 @@ impl<'a> RowTable<'a> {
             return Ok(Added::Nothing);
         }
         let before = self.rows.len();
-        let place = self.bodies.keep(
-            known,
-            Ok(row.cfa()),
-            row.entries(),
-            row.saved_args_size(),
-            None,
-        )?;
+        let place = place_of(&mut self.bodies, known, &self.rows, row, first_row)?;
         let mut run = BodyRun {
             rest: own.bytes(),
             location: start,
             place,
+            first: place,
             remembered: None,
             rule_count: self.rule_count as u64,
         };
@@ -269,6 +288,17 @@ impl<'a> RowTable<'a> {
                 self.rows.truncate(before);
                 Ok(Added::Nothing)
             }
+        }
+    }
+
+    /// Whether the row at an index says what another one does.
+    #[inline(never)]
+    pub(crate) fn says(&self, index: usize, row: RowRef<'_, 'a>) -> bool
+        ensures { result ≡ true → IsRowAt self.now.rows (Some index) row.entry }
+    {
+        match row_at(&self.rows, Some(index)) {
+            Some(kept) => self.bodies.says(kept.body, row),
+            None => false,
         }
     }
 
@@ -336,6 +366,52 @@ fn fit(limits: RowLimits, rows: usize, rules: u64) -> bool
     ensures rules { result ≡ true → rules ≤ limits.rules }
 {
     rows <= limits.rows as usize && rules <= limits.rules as u64
+}
+
+// Where the body of a row stands. The row at an index, if one is given, says the same.
+#[inline(always)]
+fn place_of<'a>(
+    bodies: &mut SteppedBodies<'a>,
+    known: &mut KnownBodies,
+    rows: &[TableRow],
+    row: RowRef<'_, 'a>,
+    index: Option<usize>,
+) -> Result<usize, AllocError>
+    requires { AllByRecursion (HasBody bodies.old) rows.now }
+    ensures grows { Grows bodies.old bodies.new }
+    ensures within { IfOk result (λ place. place < length bodies.new) }
+    ensures says { IsRowAt (map (kept_in bodies.old) rows.now) index row.entry →
+        IfOk result (λ place. Says bodies.new place (Ok row.entry)) }
+{
+    match row_at(rows, index) {
+        Some(kept) => Ok(kept.body),
+        None => keep_row(bodies, known, row),
+    }
+}
+
+// The row at an index, if one is given, lent.
+#[inline(always)]
+fn row_at(rows: &[TableRow], index: Option<usize>) -> Option<&TableRow>
+    ensures { IfSome result (λ kept. StandsAt rows.now index kept.now) }
+{
+    match index {
+        Some(index) if index < rows.len() => Some(&rows[index]),
+        _ => None,
+    }
+}
+
+// Where the body of a row stands, which may be added. Not inlined, as it is for few programs.
+#[inline(never)]
+fn keep_row<'a>(
+    bodies: &mut SteppedBodies<'a>,
+    known: &mut KnownBodies,
+    row: RowRef<'_, 'a>,
+) -> Result<usize, AllocError>
+    ensures grows { Grows bodies.old bodies.new }
+    ensures says { IfOk result (λ place. Says bodies.new place (Ok row.entry)) }
+{
+    let cfa = Ok(row.cfa());
+    bodies.keep(known, cfa, row.entries(), row.saved_args_size(), None)
 }
 
 // Where the body of the row at an index stands.

@@ -1,6 +1,6 @@
 //! Making the rows of several descriptions. DWARF 5 sections 6.4.1 and 6.4.3.
 
-ghost use Rattle.std.specs.Prelude.{◌≡◌, ◌<◌, ℕ, [], Err, None, Ok};
+ghost use Rattle.std.specs.Prelude.{◌≡◌, ◌<◌, ℕ, [], Err, None, Ok, Some, true};
 ghost use Rattle.unwind_definitions.specs.Instructions.{program, Program};
 ghost use Rattle.unwind_definitions.specs.Row.{RowInstructions, from_common};
 ghost use Rattle.encoded_pointers.specs.CursorViews.{at};
@@ -9,6 +9,7 @@ ghost use Rattle.frame_rows.specs.KeptRows.{Adds, IsLonger};
 ghost use Rattle.frame_rows.specs.Begun.{HasBegun, HasBegunBefore};
 ghost use Rattle.frame_rows.specs.BegunPrograms.{before_last, last};
 ghost use Rattle.frame_rows.specs.BodyRuns.{AddsOrNot};
+ghost use Rattle.frame_rows.specs.FirstRows.{IsFirstRow};
 ghost use Rattle.frame_rows.specs.KnownRows.{AreKnown, NotesUnless};
 ghost use Rattle.frame_rows.specs.Running.{IsEndOf, Represents, outcome};
 ghost use Rattle.frame_rows.specs.TableRows.{Keeps};
@@ -28,7 +29,8 @@ use unwind_definitions::Error;
 
 /// Makes a [`RowTable`], one description after another, within limits.
 ///
-/// Each program is run at most once, over all the locations that it reaches.
+/// Each program that isn't known is run over all the locations that it reaches: from body to body or,
+/// where an instruction makes no body, on a machine, from its start.
 #[derive(Drop)]
 pub struct RowTableBuilder<'a> {
     table: RowTable<'a>,
@@ -77,6 +79,7 @@ impl<'a> RowTableBuilder<'a> {
             HasBegunBefore self.new before }
     {
         self.begin(common, coding);
+        self.table.make_room()?;
         self.add_next(own, coding, start, end)
     }
 
@@ -181,19 +184,27 @@ impl<'a> RowTableBuilder<'a> {
         requires { start < end }
         ensures rows { (common : Program) →
             IsEndOf (last self.old.begun).state None common →
+            IsFirstRow self.old.table.rows (last self.old.begun).first_row
+            (last self.old.begun).state →
             Adds self.old.limits start end common (program (coding_in coding.entry) (at own.entry))
             self.old.table result self.new.table }
         ensures limits { self.new.limits ≡ self.old.limits }
         ensures state { (last self.new.begun).state ≡ (last self.old.begun).state }
         ensures fault { (last self.new.begun).fault ≡ (last self.old.begun).fault }
+        ensures first { IsFirstRow self.old.table.rows (last self.old.begun).first_row
+            (last self.old.begun).state → IsFirstRow self.new.table.rows
+            (last self.new.begun).first_row (last self.new.begun).state }
         ensures known { (common : Program) →
             IsEndOf (last self.old.begun).state None common →
+            IsFirstRow self.old.table.rows (last self.old.begun).first_row
+            (last self.old.begun).state →
             AreKnown common self.old.table.rows (last self.old.begun).known →
             AreKnown common self.new.table.rows (last self.new.begun).known }
         ensures before { before_last self.new.begun ≡ before_last self.old.begun }
         ensures grows { IsLonger self.old.table.rows self.new.table.rows }
     {
         if let Some(rows) = self.add_run(own, coding, start, end)? {
+            self.note_first(rows);
             return Ok(Some(rows));
         }
         self.add_slowly(own, coding, start, end)
@@ -216,6 +227,7 @@ impl<'a> RowTableBuilder<'a> {
         ensures limits { self.new.limits ≡ self.old.limits }
         ensures state { (last self.new.begun).state ≡ (last self.old.begun).state }
         ensures fault { (last self.new.begun).fault ≡ (last self.old.begun).fault }
+        ensures first { (last self.new.begun).first_row ≡ (last self.old.begun).first_row }
         ensures known { (common : Program) →
             IsEndOf (last self.old.begun).state None common →
             AreKnown common self.old.table.rows (last self.old.begun).known →
@@ -238,26 +250,41 @@ impl<'a> RowTableBuilder<'a> {
     ) -> Result<Option<RowRange>, AllocError>
         requires { start < end }
         ensures rows { (common : Program) →
-            IsEndOf (last self.old.begun).state None common → AddsOrNot self.old.limits start end common
+            IsEndOf (last self.old.begun).state None common →
+            IsFirstRow self.old.table.rows (last self.old.begun).first_row
+            (last self.old.begun).state →
+            AddsOrNot self.old.limits start end common
             (program (coding_in coding.entry) (at own.entry)) self.old.table result self.new.table }
         ensures machine { self.new.machine ≡ self.old.machine }
         ensures limits { self.new.limits ≡ self.old.limits }
         ensures state { (last self.new.begun).state ≡ (last self.old.begun).state }
         ensures fault { (last self.new.begun).fault ≡ (last self.old.begun).fault }
+        ensures first { (last self.new.begun).first_row ≡ (last self.old.begun).first_row }
         ensures known { (common : Program) →
             IsEndOf (last self.old.begun).state None common →
+            IsFirstRow self.old.table.rows (last self.old.begun).first_row
+            (last self.old.begun).state →
             AreKnown common self.old.table.rows (last self.old.begun).known →
             AreKnown common self.new.table.rows (last self.new.begun).known }
         ensures before { before_last self.new.begun ≡ before_last self.old.begun }
         ensures grows { IsLonger self.old.table.rows self.new.table.rows }
     {
         let (first, first_rule) = (self.table.end(), self.table.rule_count());
-        let Some(row) = self.begun.last().state.row() else {
+        let begun = self.begun.last();
+        let Some(row) = begun.state.row() else {
             return Ok(None);
         };
-        let added = self
-            .table
-            .add_run(&mut self.known, row, own, coding, start, end, self.limits)?;
+        let first_row = begun.first_row;
+        let added = self.table.add_run(
+            &mut self.known,
+            row,
+            first_row,
+            own,
+            coding,
+            start,
+            end,
+            self.limits,
+        )?;
         let rows = RowRange {
             first,
             end: self.table.end(),
@@ -280,6 +307,42 @@ impl<'a> RowTableBuilder<'a> {
         }
     }
 
+    // Notes the first of some rows as one that says what the common information entry's program ended
+    // with, where none is known and it does.
+    #[inline(always)]
+    fn note_first(&mut self, rows: RowRange)
+        ensures table { self.new.table ≡ self.old.table }
+        ensures limits { self.new.limits ≡ self.old.limits }
+        ensures state { (last self.new.begun).state ≡ (last self.old.begun).state }
+        ensures fault { (last self.new.begun).fault ≡ (last self.old.begun).fault }
+        ensures known { (last self.new.begun).known ≡ (last self.old.begun).known }
+        ensures before { before_last self.new.begun ≡ before_last self.old.begun }
+        ensures first { IsFirstRow self.old.table.rows (last self.old.begun).first_row
+            (last self.old.begun).state → IsFirstRow self.old.table.rows
+            (last self.new.begun).first_row (last self.old.begun).state }
+    {
+        let index = rows.first as usize;
+        if self.begins_at(index) {
+            self.begun.note_first(index);
+        }
+    }
+
+    // Whether no row is known that says what the common information entry's program ended with, and
+    // the one at an index does.
+    fn begins_at(&self, index: usize) -> bool
+        ensures { result ≡ true → IsFirstRow self.now.table.rows (Some index)
+            (last self.now.begun).state }
+    {
+        let begun = self.begun.last();
+        if begun.first_row.is_some() {
+            return false;
+        }
+        match begun.state.row() {
+            Some(row) => self.table.says(index, row),
+            None => false,
+        }
+    }
+
     // Adds the rows of a description whose own program is to run.
     fn add_rows(
         &mut self,
@@ -298,6 +361,7 @@ impl<'a> RowTableBuilder<'a> {
         ensures limits { self.new.limits ≡ self.old.limits }
         ensures state { (last self.new.begun).state ≡ (last self.old.begun).state }
         ensures fault { (last self.new.begun).fault ≡ (last self.old.begun).fault }
+        ensures first { (last self.new.begun).first_row ≡ (last self.old.begun).first_row }
         ensures known { (common : Program) (run : RowInstructions) →
             outcome 0 None (from_common []) common ≡ Ok run →
             Represents start self.old.machine (from_common common.instructions) →
@@ -350,6 +414,7 @@ impl<'a> RowTableBuilder<'a> {
     fn note(&mut self, known: KnownProgram<'a>, sets_location: bool) -> Result<(), AllocError>
         ensures state { (last self.new.begun).state ≡ (last self.old.begun).state }
         ensures fault { (last self.new.begun).fault ≡ (last self.old.begun).fault }
+        ensures first { (last self.new.begun).first_row ≡ (last self.old.begun).first_row }
         ensures notes { NotesUnless sets_location (last self.old.begun).known known.entry
             (last self.new.begun).known }
         ensures before { before_last self.new.begun ≡ before_last self.old.begun }

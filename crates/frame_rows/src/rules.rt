@@ -41,7 +41,7 @@ impl<'a> Model for RegisterRules<'a> {
 }
 
 impl<'a> RegisterRules<'a> {
-    ghost use Rattle.std.specs.Prelude.{[], Some, None, OnOk, OnErr, true, false, map, ◌≤◌};
+    ghost use Rattle.std.specs.Prelude.{[], IfSome, Some, None, is_some, OnOk, OnErr, true, false, map, ◌≤◌};
     ghost use Rattle.std.specs.Option.{option_map};
     ghost use Rattle.frame_rows.specs.Rules.{entry_of, rule_in, find_in, with_rule, rule_meaning};
     ghost use Rattle.frame_rows.specs.Rules.{AscendsFrom, is_room};
@@ -139,6 +139,29 @@ impl<'a> RegisterRules<'a> {
                 self.entries.remove(i);
             }
             Err(_) => {}
+        }
+    }
+
+    /// Gives a register a rule, or takes it away, as its initial rule is.
+    pub(crate) fn reset(
+        &mut self,
+        register: Register,
+        rule: Option<RegisterRule<'a>>,
+    ) -> Result<(), Error>
+        ensures ok { OnOk result ((c : ℕ) → rule_in self.new c ≡
+            with_rule register.0 (option_map rule_meaning rule.entry) self.old c) }
+        ensures room { OnOk result (IfSome (option_map rule_meaning rule.entry)
+            (λ _. is_room register.0 self.old ≡ true)) }
+        ensures full { OnErr result (is_room register.0 self.old ≡ false) }
+        ensures some { OnErr result (is_some rule.entry ≡ true) }
+        ensures err { IfErr result (λ e. e ≡ Error.TooManyRegisterRules) }
+    {
+        match rule {
+            Some(rule) => self.set(register, rule),
+            None => {
+                self.remove(register);
+                Ok(())
+            }
         }
     }
 

@@ -68,7 +68,8 @@ impl<'a> Instructions<'a> {
         Ok(Some(instruction))
     }
 
-    // The next instruction, where it is one of those that most programs consist of. It is then read.
+    // The next instruction, where it is one of those that most programs consist of and the code
+    // alignment factor has at most 32 bits. It is then read.
     #[inline(always)]
     fn next_short(&mut self, coding: Coding) -> Option<ShortInstruction>
         ensures reads { let coding = coding_in coding.entry in IfSome result (λ short.

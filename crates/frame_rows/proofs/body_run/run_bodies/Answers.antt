@@ -1,4 +1,4 @@
-use Rattle.std.proofs.Common.{ap, ◌∙◌, arith, rules}
+use Rattle.std.proofs.Common.{◌∙◌, arith, rules}
 use Rattle.frame_rows.specs.InstructionViews.{coding_in}
 use Rattle.frame_rows.proofs.RunSteps.{bodied_longer, grows_on, ran_on, running_longer}
 use Rattle.frame_rows.proofs.body_run.run_bodies.Goals as goal
@@ -29,7 +29,7 @@ loop-turn-preserved c =
           let now = c.loop-turn.invariant.5 common own old first ran r in
           let there = running_longer c.loop-turn.bodies c.learn.new.bodies grows c.args.start c.args.end common own old (coding_in c.args.coding) c.run_known.new.rows.items c.run_known.new.run bodied
           (rw c.in-Stopped.is at (c.in_ok-ended.ensures.runs common own old first ran now)) in
-          let t = c.in_ok-learn.ensures.turns (search rules) c.args.start there.machine there.now there.left there.represents there.stands there.bytes in
-          ran_on c.args.start c.args.end common own old (coding_in c.args.coding) c.learn.new.bodies c.run_known.new.rows.items c.run_known.new.run c.learn.new.self there t c.learn.ensures.location c.learn.ensures.rules,
+          let t = c.in_ok-learn.ensures.turns (search rules) c.args.start there.machine there.now there.left there.represents there.stands there.initial there.bytes in
+          ran_on c.args.start c.args.end common own old (coding_in c.args.coding) c.learn.new.bodies c.run_known.new.rows.items c.run_known.new.run c.learn.new.self there t c.learn.ensures.location c.learn.ensures.first c.learn.ensures.rules,
       let room = c.in_ok-ended.ensures.room in let fewer = c.learn.ensures.fewer in let same = c.learn.ensures.rules in omega arith,
     )

@@ -1,7 +1,6 @@
-use Rattle.std.proofs.Common.{◌≡◌, ℕ, ◌+◌, ◌-◌, ◌%◌, ◌^◌, ◌∷◌, ◌++◌, [], List, None, Err, Result, length, take, refl, sym, ap, ◌∙◌, subst, arith, length-append}
+use Rattle.std.proofs.Common.{ℕ, ◌+◌, ◌-◌, ◌%◌, ◌^◌, ◌∷◌, [], Err, length, refl, ap, ◌∙◌, arith, length-append}
 use Rattle.std.proofs.lemmas.List.{take-append-le}
 use Rattle.unwind_definitions.specs.declared.error.Error.TheVariants.{NoCfaRegister}
-use Rattle.unwind_definitions.specs.Instructions.{Coding}
 use Rattle.frame_rows.specs.InstructionViews.{coding_in}
 use Rattle.frame_rows.specs.TableRows.{HasBody}
 use Rattle.frame_rows.specs.declared.row_table.TableRow.{TableRow}
@@ -34,7 +33,7 @@ loop-next-preserved c =
           let far = far_from c.args.start c.turn.new.self.location c.loop-next.now.location c.turn.ensures.location now.adding.ahead (let below = now.adding.below in omega arith) in
           rw items
           (led_further c.args.start c.args.end common own old (coding_in c.args.coding) c.args.bodies.now c.loop-next.rows.items row c.loop-next.now c.turn.new.self c.in-Some-LeadsOn.next c.rule_count.result first ran now t c.turn.ensures.location far refl
-          (c.rule_count.ensures.count (Err NoCfaRegister)) (c.rule_count.ensures.ascends (Err NoCfaRegister)) _ c.if-next-end.false refl refl refl (ap (λ (n : ℕ). n + c.rule_count.result) c.turn.ensures.rules) refl),
+          (c.rule_count.ensures.count (Err NoCfaRegister)) (c.rule_count.ensures.ascends (Err NoCfaRegister)) _ c.if-next-end.false refl refl refl c.turn.ensures.first (ap (λ (n : ℕ). n + c.rule_count.result) c.turn.ensures.rules) refl),
       let room = c.loop-next.invariant.5 in let few = c.rule_count.ensures.few in let fewer = c.in-Some-LeadsOn.ensures.fewer in let rules = c.turn.ensures.rules in omega arith,
     )
 
@@ -47,6 +46,6 @@ loop-next-preserved-in-Some-Ran c = (
   λ common own old first ran begun.
       let now = c.loop-next.invariant.4 common own old first ran begun in
       let t = rw c.in-Some-Ran.field-0-is at (c.in-Some-Ran.ensures.turns c.args.start now.machine now.now now.left now.represents now.stands now.bytes) in
-      ran_on c.args.start c.args.end common own old (coding_in c.args.coding) c.args.bodies.now c.loop-next.rows.items c.loop-next.now c.turn.new.self now t c.turn.ensures.location c.turn.ensures.rules,
+      ran_on c.args.start c.args.end common own old (coding_in c.args.coding) c.args.bodies.now c.loop-next.rows.items c.loop-next.now c.turn.new.self now t c.turn.ensures.location c.turn.ensures.first c.turn.ensures.rules,
   let room = c.loop-next.invariant.5 in let fewer = c.in-Some-Ran.ensures.fewer in let rules = c.turn.ensures.rules in omega arith,
 )

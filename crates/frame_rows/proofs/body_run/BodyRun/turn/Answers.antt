@@ -1,9 +1,7 @@
-use Rattle.std.proofs.Common.{◌<◌, ap, sym, refl, rules, arith, subst, List, length, ◌∙◌}
+use Rattle.std.proofs.Common.{◌<◌, ap, sym, refl, arith, length}
 use Rattle.unwind_definitions.specs.Input.{Input}
 use Rattle.encoded_pointers.specs.CursorViews.{at}
 use Rattle.frame_rows.specs.InstructionViews.{coding_in, short_meaning}
-use Rattle.frame_rows.specs.Stepping.{IsLeft}
-use Rattle.frame_rows.specs.declared.body_run.BodyRun.{BodyRun as Walker}
 use Rattle.frame_rows.proofs.Moving.{movable_one, short_relative}
 use Rattle.frame_rows.proofs.SliceReading.{read_left}
 use Rattle.frame_rows.proofs.Standing.{takes_turn}

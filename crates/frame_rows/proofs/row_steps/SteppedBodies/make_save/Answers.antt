@@ -1,4 +1,4 @@
-use Rattle.std.proofs.Common.{sym, ap, rules, ◌∙◌}
+use Rattle.std.proofs.Common.{sym, rules, ◌∙◌}
 use Rattle.unwind_definitions.specs.Instructions.{Offset}
 use Rattle.frame_rows.specs.BodySteps.{offset_step, save_step}
 use Rattle.frame_rows.proofs.BodyMakes.{save_makes}
