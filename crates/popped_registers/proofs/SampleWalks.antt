@@ -36,7 +36,7 @@ use Rattle.popped_registers.specs.PoppedSample.{body_run, caller, fde, image, ke
 abbrev pub next_by : (image : List Span) (c : Context) (cfa : ℕ) (rules : List (ℕ × Rule)) → Result (Option Stepped) DeliverError
 next_by image c cfa rules = result_map Some (result_map_both (next_with false) refusal_of (rules_applied (evaluation image) image (columns_of c) cfa rules (value_without_rule x86_64 (columns_of c) cfa)))
 
-stepped : (space : SpaceValue) (c : Context) (interrupted : Bool) (f : DescribedFrame) (rule : CfaRule) (cfa : ℕ) (rules : List (ℕ × Rule)) → f.found.fde.cie.letters.signal ≡ false → frame_of space c interrupted ≡ Ok (Some (Described f)) →
+pub stepped : (space : SpaceValue) (c : Context) (interrupted : Bool) (f : DescribedFrame) (rule : CfaRule) (cfa : ℕ) (rules : List (ℕ × Rule)) → f.found.fde.cie.letters.signal ≡ false → frame_of space c interrupted ≡ Ok (Some (Described f)) →
     cfa_rule f.run ≡ Some rule → cfa_value (evaluation space.image) (columns_of c) rule ≡ Ok cfa → AscendsFrom 0 rules → ((k : ℕ) → rule_in rules k ≡ rule_of f.run k) → step_of space c interrupted ≡ next_by space.image c cfa rules
 stepped space c interrupted f rule cfa rules called found ruled gives up each =
     step_is space c interrupted

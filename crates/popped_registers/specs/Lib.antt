@@ -2,5 +2,6 @@
 -- memory its stack is walked.
 pub mod PoppedRegisters
 pub mod KeptWalks
--- A worked stack.
+-- Worked stacks.
 pub mod PoppedSample
+pub mod RealignedSample

@@ -12,7 +12,7 @@ use Rattle.memory_image.specs.Image.{Span, refusal, with_span, word_at}
 use Rattle.unwind_definitions.specs.Caller.{StepFault, ◌+w◌, cfa_value}
 use Rattle.unwind_definitions.specs.Columns as column
 use Rattle.unwind_definitions.specs.Expressions.{evaluation}
-use Rattle.unwind_definitions.specs.Instructions.{Rule, Offset}
+use Rattle.unwind_definitions.specs.Instructions.{Rule, Offset, Expression}
 use Rattle.unwind_definitions.specs.Row.{CfaRule, cfa_rule, rule_of}
 use Rattle.unwind_arch.specs.declared.x86_64.Context.{Context}
 use Rattle.unwind_arch.specs.ContextViews.{columns_of}
@@ -27,9 +27,10 @@ use Rattle.popped_registers.specs.declared.popped.PoppedRegister.{PoppedRegister
 
 -- ---- which registers were popped
 
--- the callee-saved registers but for the stack pointer: RBX, RBP and R12 to R15
-abbrev pub callee_saved : List ℕ
-callee_saved = column.rbx ∷ column.rbp ∷ column.r12 ∷ column.r13 ∷ column.r14 ∷ column.r15 ∷ []
+-- The registers that count: the callee-saved ones but for the stack pointer, which are RBX, RBP and R12 to R15; and RAX and RDX,
+-- which functions save that set the registers of a landing pad (gcc's __builtin_eh_return), and pop where they enter it.
+abbrev pub restored : List ℕ
+restored = column.rbx ∷ column.rbp ∷ column.r12 ∷ column.r13 ∷ column.r14 ∷ column.r15 ∷ column.rax ∷ column.rdx ∷ []
 
 -- all eight bytes of a slot lie below the stack pointer, and not all of them are mapped
 abbrev pub is_given_up : List Span → ℕ → ℕ → Bool
@@ -43,10 +44,23 @@ abbrev pub popped_if : Bool → ℕ → Option ℕ → Option PoppedRegister
 popped_if false slot word = None
 popped_if true slot word = option_map (popped_from slot) word
 
--- a register by its rule: it was popped where that is a slot, so far from the CFA, which was given up
+-- the slot that a rule tells, so far from the CFA or by an expression, where this has a value
+abbrev pub slot_at : Result ℕ StepFault → Option ℕ
+slot_at (Ok slot) = Some slot
+slot_at (Err e) = None
+
+abbrev pub slot_by : List Span → Context → ℕ → Option Rule → Option ℕ
+slot_by image c cfa (Some (Offset n)) = Some (cfa +w n)
+slot_by image c cfa (Some (Expression bytes)) = slot_at (evaluation image bytes (cfa ∷ []) (columns_of c))
+slot_by image c cfa _ = None
+
+-- a register by its slot: it was popped where that was given up
+abbrev pub popped_by_slot : List Span → Context → ℕ → Option ℕ → Option PoppedRegister
+popped_by_slot image c k None = None
+popped_by_slot image c k (Some slot) = popped_if (is_given_up image (slice_index c.registers column.rsp) slot) slot (columns_of c k)
+
 abbrev pub popped_by : List Span → Context → ℕ → ℕ → Option Rule → Option PoppedRegister
-popped_by image c cfa k (Some (Offset n)) = popped_if (is_given_up image (slice_index c.registers column.rsp) (cfa +w n)) (cfa +w n) (columns_of c k)
-popped_by image c cfa k _ = None
+popped_by image c cfa k rule = popped_by_slot image c k (slot_by image c cfa rule)
 
 -- those of some columns, by their rules and the CFA
 abbrev pub popped_among : List Span → Context → (ℕ → Option Rule) → ℕ → List ℕ → List PoppedRegister
@@ -55,7 +69,7 @@ popped_among image c rules cfa (k ∷ ks) = cons_option (popped_by image c cfa k
 
 -- where the CFA has a value
 abbrev pub popped_from_cfa : List Span → Context → (ℕ → Option Rule) → Result ℕ StepFault → List PoppedRegister
-popped_from_cfa image c rules (Ok cfa) = popped_among image c rules cfa callee_saved
+popped_from_cfa image c rules (Ok cfa) = popped_among image c rules cfa restored
 popped_from_cfa image c rules (Err e) = []
 
 -- by the rules of a row, of which the first is that of the CFA

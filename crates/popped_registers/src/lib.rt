@@ -12,5 +12,5 @@ mod popped;
 mod sample;
 mod walks;
 
-pub use sample::a_popped_register_is_kept;
+pub use sample::{a_popped_register_is_kept, a_register_popped_from_an_expressions_slot_is_kept};
 pub use walks::{KeptWalk, walk_interrupted, walk_interrupted_cached};

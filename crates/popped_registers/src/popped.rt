@@ -7,7 +7,7 @@ ghost use Rattle.unwind_definitions.specs.Caller.{cfa_value};
 ghost use Rattle.unwind_definitions.specs.Expressions.{evaluation};
 ghost use Rattle.unwind_arch.specs.ContextViews.{columns_of};
 ghost use Rattle.unwinding_frames.specs.Calling.{value_given};
-ghost use Rattle.popped_registers.specs.PoppedRegisters.{is_given_up, popped_by};
+ghost use Rattle.popped_registers.specs.PoppedRegisters.{is_given_up, popped_by, slot_by};
 
 use eh_frame::{CfaRule, Error, Register, RegisterMap, RegisterRule, RowRef, evaluate};
 use memory_image::MemoryImage;
@@ -65,7 +65,28 @@ fn is_given_up(image: &MemoryImage<'_>, stack_pointer: u64, slot: u64) -> bool
     stack_pointer >= 8 && slot <= stack_pointer - 8 && image.read_u64(slot).is_none()
 }
 
-/// A register that was popped, by its rule and the canonical frame address: where the rule is a slot
+/// The slot that a rule says, where it says one.
+fn slot_by(
+    image: &MemoryImage<'_>,
+    context: &Context,
+    cfa: u64,
+    rule: Option<RegisterRule<'_>>,
+) -> Option<u64>
+    ensures { result ≡ slot_by image.now context.now cfa (option_map rule_meaning rule.entry) }
+{
+    match rule {
+        Some(RegisterRule::Offset(offset)) => Some(cfa.wrapping_add(offset)),
+        Some(RegisterRule::Expression(expression)) => {
+            match evaluate(expression, Some(cfa), context, image) {
+                Ok(slot) => Some(slot),
+                Err(_) => None,
+            }
+        }
+        _ => None,
+    }
+}
+
+/// A register that was popped, by its rule and the canonical frame address: where the rule says a slot
 /// that was given up.
 pub(crate) fn popped_by(
     image: &MemoryImage<'_>,
@@ -77,10 +98,7 @@ pub(crate) fn popped_by(
     ensures { result ≡ popped_by image.now context.now cfa register.0
         (option_map rule_meaning rule.entry) }
 {
-    let Some(RegisterRule::Offset(offset)) = rule else {
-        return None;
-    };
-    let slot = cfa.wrapping_add(offset);
+    let slot = slot_by(image, context, cfa, rule)?;
     if !is_given_up(image, context.registers[RSP], slot) {
         return None;
     }

@@ -30,14 +30,17 @@ pub struct KeptWalk {
     pub popped: bool,
 }
 
-// The callee-saved registers but for the stack pointer: RBX, RBP and R12 to R15.
-const CALLEE_SAVED: [Register; 6] = [
+// The registers that count: the callee-saved ones but for the stack pointer, which are RBX, RBP and R12
+// to R15; and RAX and RDX, which functions save that set the registers of a landing pad.
+const RESTORED: [Register; 8] = [
     Register(3),
     Register(6),
     Register(12),
     Register(13),
     Register(14),
     Register(15),
+    Register(0),
+    Register(1),
 ];
 
 /// The frame at which a thread was interrupted, over the memory at hand.
@@ -163,7 +166,7 @@ where
                 row,
                 cfa,
             };
-            walk_with(&frame, &CALLEE_SAVED, space, image, limit, room)
+            walk_with(&frame, &RESTORED, space, image, limit, room)
         }
         Err(_) => {
             let why = walk_over(space, image, start, limit, room);
@@ -272,8 +275,8 @@ fn is_cut_at_start(why: EndReason, room: &Room) -> bool
 /// which maps what its own does, into a room as far as it goes, and answers why it goes no further.
 ///
 /// It is the walk of [`walk_to_end_over`], but where the step from the first state meets what isn't
-/// mapped. There each of RBX, RBP and R12 to R15 of which the row says that it lies in a slot below
-/// the stack pointer, and of whose slot not all bytes are mapped, counts as popped: its slot holds
+/// mapped. There each of RBX, RBP, R12 to R15, RAX and RDX of which the row says that it lies in a slot
+/// below the stack pointer, and of whose slot not all bytes are mapped, counts as popped: its slot holds
 /// what the register holds, in this walk alone. Where any counts so, the answer is marked.
 pub fn walk_interrupted<'s, 't>(
     space: &'s Space<'t>,
@@ -309,8 +312,9 @@ where
     }
 }
 
-/// Walks as [`walk_interrupted`] does over the space of a cache, by the rows that the cache keeps. A
-/// frame at an address that was asked before, in whichever walk, needs no search.
+/// Walks as [`walk_interrupted`] does over the space of a cache, by the rows that the cache keeps. Most
+/// frames at addresses whose rows it keeps, from whichever walk, need no search, but in a walk that
+/// keeps popped registers.
 pub fn walk_interrupted_cached<'s, 'c, 't>(
     cache: &mut FrameCache<'c, 't>,
     image: &'s MemoryImage<'s>,
