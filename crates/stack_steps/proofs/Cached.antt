@@ -14,14 +14,16 @@ use Rattle.format_frames.specs.declared.machine.Stepped.{Stepped}
 use Rattle.frame_rows.specs.Rows.{IsRowOf}
 use Rattle.stack_steps.specs.declared.error.DeliverError.{DeliverError}
 use Rattle.stack_steps.specs.declared.frame_cache.CachedRow.{CachedRow}
+use Rattle.stack_steps.specs.declared.functions.DescribedFunction.{DescribedFunction}
 use Rattle.stack_steps.specs.declared.prepared.PreparedTable.{PreparedTable}
 use Rattle.stack_steps.specs.declared.space.AddedModule.{AddedModule}
 use Rattle.stack_steps.specs.declared.space.Module.{Module}
 use Rattle.stack_steps.specs.declared.space.ModuleTables.{ModuleTables}
 use Rattle.stack_steps.specs.declared.space.ModuleTables.TheVariants.{Elf, Macho, Pe}
 use Rattle.stack_steps.specs.AddedModule.{IsAddedModule, IsTable, IsTableIn, IsTableOf, added_of, holder_of, index_in}
-use Rattle.stack_steps.specs.Caching.{AreCached, Finds, GivesRowDue, IsCached, IsCachedPlace, IsFree, IsHolder, IsRowDue, Keeps}
+use Rattle.stack_steps.specs.Caching.{AreCached, Finds, GivesRowDue, IsCached, IsCachedPlace, IsFree, IsHolder, IsRowDue, Keeps, cached_function}
 use Rattle.stack_steps.specs.Elf.{caller, frame_by}
+use Rattle.stack_steps.specs.Functions.{described_at, described_function, described_in, function_of}
 use Rattle.stack_steps.specs.Frames.{FrameAt, DescribedFrame}
 use Rattle.stack_steps.specs.Growing.{IsSeenOver}
 use Rattle.stack_steps.specs.Modules.{SpaceValue, module_at}
@@ -30,7 +32,7 @@ use Rattle.stack_steps.specs.Preparing.{index_at}
 use Rattle.stack_steps.specs.Stepping.{frame_by_tables, frame_in, frame_of, step_of}
 use Rattle.stack_steps.specs.Ticking.{TicksAt, TicksBy}
 use Rattle.stack_steps.proofs.Growing.{held_stays}
-use Rattle.stack_steps.proofs.StepParts.{some_next, step_is, stepped_by}
+use Rattle.stack_steps.proofs.StepParts.{found_framed, some_next, step_is, stepped_by}
 
 -- ---- the places
 
@@ -87,6 +89,10 @@ table_there image m t added is = elf_table image m.holder.tables t (subst (IsTab
 abbrev pub GivesOver : PreparedTable → ℕ → Result (Option CachedRow) DeliverError → Type 0
 GivesOver t a given = (image : List Span) (tables : FrameInfo) → IsLaidOut 0 image → IsTableOf image tables t → GivesRowDue given (frame_by a (found_by tables image a))
 
+pub described_is : (space : SpaceValue) (a : ℕ) (o : Option Module) → module_at space.modules a ≡ o → described_function space a ≡ described_at space.image a o
+unfolding described_function
+described_is space a o is = ap (described_at space.image a) is
+
 pub new_cached : (space : SpaceValue) (m : AddedModule) (t : PreparedTable) (a : ℕ) (k : CachedRow) → IsHolder space a m → m.table ≡ Some t → k.address ≡ a → GivesOver t a (Ok (Some k)) → IsCached space k
 new_cached space m t a k held is at gives = record {
   holder = m.holder;
@@ -94,6 +100,11 @@ new_cached space m t a k held is at gives = record {
   index = t.index;
   prepared = ap (index_at space.added) at ∙ held.indexed ∙ ap (option_map index_in) is;
   some = (table_there space.image m t held.added is).table.prepared.some;
+  described = λ laid.
+      let e = table_there space.image m t held.added is in
+      let due = gives space.image e.info laid e.table in
+      let one : described_function space k.address ≡ described_in space.image a m.holder.tables = described_is space k.address (Some m.holder) here ∙ ap (λ n. described_in space.image n m.holder.tables) at in
+      one ∙ ap (described_in space.image a) e.is ∙ ap (option_map function_of) (found_framed a (found_by e.info space.image a) due.frame due.is_due) ∙ (λ i. Some (record { start = sym due.start i; signal = sym due.signal i }));
   found = λ image laid grows.
       let e = table_there image m t (held_stays space.image image grows m held.added) is in
       let due : frame_by a (found_by e.info image a) ≡ frame_in image k.address (module_at space.modules k.address) =
@@ -103,6 +114,17 @@ new_cached space m t a k held is at gives = record {
   where
     here : module_at space.modules k.address ≡ Some m.holder
     here = ap (module_at space.modules) at ∙ held.holds
+
+-- the function that the index of such a module finds
+pub held_function : (image : List Span) (m : AddedModule) (t : PreparedTable) (a : ℕ) (given : Option DescribedFunction) → IsLaidOut 0 image → IsAddedModule image m → m.table ≡ Some t →
+    ((over : List Span) (tables : FrameInfo) → IsLaidOut 0 over → IsTableOf over tables t → given ≡ option_map function_of (found_by tables over a)) → given ≡ described_in image a m.holder.tables
+held_function image m t a given laid added is finds =
+    let e = table_there image m t added is in
+    finds image e.info laid e.table ∙ sym (ap (described_in image a) e.is)
+
+-- the function of a row that is kept
+pub kept_function : (space : SpaceValue) (k : CachedRow) (a : ℕ) → IsLaidOut 0 space.image → IsCached space k → k.address ≡ a → Some (cached_function k) ≡ described_function space a
+kept_function space k a laid is at = sym (is.described laid) ∙ ap (described_function space) at
 
 -- ---- steps
 

@@ -42,6 +42,7 @@ use Rattle.stack_steps.specs.declared.prepared.PreparedTable.{PreparedTable}
 use Rattle.stack_steps.specs.AddedModule.{IsTableOf, kept_table}
 use Rattle.stack_steps.specs.Preparing.{HeaderLists, Lists, fdes_in}
 use Rattle.stack_steps.specs.Elf.{frame_by, frame_with}
+use Rattle.stack_steps.specs.Functions.{function_of}
 
 -- ---- what a header that lists an index finds
 
@@ -179,3 +180,14 @@ shown_row image tables t pc fde run laid is one row = one_shown image tables t p
 pub shown_fault : (image : List Span) (tables : FrameInfo) (t : PreparedTable) (pc : ℕ) (fde : Fde) (e : Fault) → IsLaidOut 0 image → IsTableOf image tables t → scan (bases_of t.bases) (table_of t.frames) pc ≡ Ok fde → row_at (bases_of t.bases) fde pc ≡ Err e →
     frame_by pc (named.found_by tables image pc) ≡ Err (Table e)
 shown_fault image tables t pc fde e laid is one fault = one_shown image tables t pc fde laid is one ∙ ap (result_map_both (frame_with (seen_by t fde)) Table) fault
+
+-- ---- the function that it describes
+
+pub none_described : (image : List Span) (tables : FrameInfo) (t : PreparedTable) (pc : ℕ) → IsLaidOut 0 image → IsTableOf image tables t → scan (bases_of t.bases) (table_of t.frames) pc ≡ Err NoUnwindInfoForAddress → None ≡ option_map function_of (named.found_by tables image pc)
+none_described image tables t pc laid is none =
+    sym (ap (option_map function_of) (table_finds image tables t pc laid is ∙ ap (λ (r : Result Fde Fault). found_in (bases_of t.bases) (table_of t.frames) r) none))
+
+pub one_described : (image : List Span) (tables : FrameInfo) (t : PreparedTable) (pc : ℕ) (fde : Fde) → IsLaidOut 0 image → IsTableOf image tables t → scan (bases_of t.bases) (table_of t.frames) pc ≡ Ok fde →
+    Some (function_of (seen_by t fde)) ≡ option_map function_of (named.found_by tables image pc)
+one_described image tables t pc fde laid is one =
+    sym (ap (option_map function_of) (table_finds image tables t pc laid is ∙ ap (λ (r : Result Fde Fault). found_in (bases_of t.bases) (table_of t.frames) r) one))

@@ -2,6 +2,7 @@ pub mod AddedModules
 pub mod Apart
 pub mod ContextLemmas
 pub mod Counted
+pub mod DescribedFrames
 pub mod Cached
 pub mod Callers
 pub mod FoundFrames

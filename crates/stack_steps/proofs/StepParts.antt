@@ -1,7 +1,9 @@
 -- A step as the frame and its caller.
 use Rattle.std.proofs.Common.{inl, inr, ◌≡◌, ℕ, Bool, Option, Some, None, Result, Ok, Err, List, refl}
 use Rattle.std.specs.Prelude.{◌⊎◌}
+use Rattle.std.specs.Result.{result_map_both}
 use Rattle.memory_image.specs.Image.{Span}
+use Rattle.unwind_definitions.specs.declared.error.Error.{Error as Fault}
 use Rattle.unwind_definitions.specs.Row.{RowInstructions, row_at}
 use Rattle.unwind_definitions.specs.Caller.{x86_64, caller_of}
 use Rattle.unwind_arch.specs.declared.x86_64.Context.{Context}
@@ -10,9 +12,10 @@ use Rattle.unwind_definitions.specs.Expressions.{evaluation}
 use Rattle.fde_finders.specs.Finding.{FoundFde}
 use Rattle.format_frames.specs.declared.machine.Stepped.{Stepped}
 use Rattle.stack_steps.specs.declared.error.DeliverError.{DeliverError}
+use Rattle.stack_steps.specs.declared.error.DeliverError.TheVariants.{Table}
 use Rattle.stack_steps.specs.Modules.{SpaceValue}
 use Rattle.memory_image.specs.Results.{◌>>=◌, result_map}
-use Rattle.stack_steps.specs.Frames.{FrameAt, DescribedFrame}
+use Rattle.stack_steps.specs.Frames.{FrameAt, DescribedFrame, Described}
 use Rattle.stack_steps.specs.Elf.{frame_with, frame_by, caller as described_caller}
 use Rattle.stack_steps.specs.Stepping.{frame_of, caller_by, caller_at, step_of}
 use Rattle.stack_steps.proofs.ContextLemmas.{IsWhole, context_of-columns}
@@ -43,6 +46,15 @@ none_framed image c (Err x) e = absurd cc
 -- what is found, with its row, is the frame
 pub frame_found : (a : ℕ) (o : Option FoundFde) (found : FoundFde) (run : RowInstructions) → Some found ≡ o → row_at found.bases found.fde a ≡ Ok run → frame_by a o ≡ Ok (frame_with found run)
 frame_found a o found run is row = rw (← is, row) refl
+
+-- and the other way round
+pub found_framed : (a : ℕ) (o : Option FoundFde) (f : DescribedFrame) → frame_by a o ≡ Ok (Some (Described f)) → o ≡ Some f.found
+found_framed a None f is = absurd cc
+found_framed a (Some found) f is = go (row_at found.bases found.fde a) is
+  where
+    go : (r : Result RowInstructions Fault) → result_map_both (frame_with found) Table r ≡ Ok (Some (Described f)) → Some found ≡ Some f.found
+    go (Ok run) e = cc
+    go (Err x) e = absurd cc
 
 -- a caller's columns are those of the context that holds them
 pub caller_left : (image : List Span) (c next : Context) (signal : Bool) (f : DescribedFrame) → signal ≡ f.found.fde.cie.letters.signal → IsWhole next → Ok (columns_of next) ≡ caller_of x86_64 (evaluation image) image (columns_of c) f.run →

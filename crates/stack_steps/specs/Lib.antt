@@ -4,6 +4,7 @@ pub mod Languages
 pub mod Elf
 pub mod FrameViews
 pub mod Frames
+pub mod Functions
 pub mod Growing
 pub mod GrownSample
 pub mod AddedModule

@@ -10,6 +10,7 @@ ghost use Rattle.fde_finders.specs.Named.{found_by};
 ghost use Rattle.stack_steps.specs.AddedModule.{IsTableOf};
 ghost use Rattle.stack_steps.specs.Caching.{Finds, GivesRowDue, IsFree, IsHolder, Keeps};
 ghost use Rattle.stack_steps.specs.Elf.{frame_by};
+ghost use Rattle.stack_steps.specs.Functions.{described_function};
 ghost use Rattle.stack_steps.specs.Growing.{Grows, IsSeenOver, advanced_to, over_image};
 ghost use Rattle.stack_steps.specs.ModulesAsked.{IsAsked};
 ghost use Rattle.stack_steps.specs.Stepping.{frame_of, step_of};
@@ -17,6 +18,7 @@ ghost use Rattle.stack_steps.specs.Ticking.{TicksAt};
 
 use crate::elf;
 use crate::error::DeliverError;
+use crate::functions::DescribedFunction;
 use crate::grown::GrownSpace;
 use crate::prepared::PreparedTable;
 use crate::space::{AddedModule, Space};
@@ -45,6 +47,8 @@ fn place_of(address: u64) -> usize
 #[derive(Drop)]
 pub(crate) struct CachedRow<'c> {
     address: u64,
+    // where the function of its description begins
+    start: u64,
     // whether its description is of a signal's frame
     signal: bool,
     row: RowRef<'c, 'c>,
@@ -53,8 +57,8 @@ pub(crate) struct CachedRow<'c> {
 /// Places for rows: that of an address is known by its number alone, and holds the row that was kept
 /// there last.
 ///
-/// A row is kept at the second search for its address, so that addresses which are asked once cost no
-/// copy, and take no place from others.
+/// A row is kept where two searches in a row that come to its place are for its address, so that
+/// addresses which are asked once cost no copy, and take no place from others.
 #[derive(Drop)]
 struct CachedRows<'c> {
     places: Vec<Option<CachedRow<'c>>>,
@@ -113,8 +117,10 @@ impl<'c> CachedRows<'c> {
     }
 }
 
-/// Rows that were found at addresses of a space, so that a step at an address that was asked before
-/// needs no search.
+/// Rows that were found at addresses of a space, so that a step at an address whose row is kept needs
+/// no search, where its CFA is a register and an offset and its registers lie close below that, in the
+/// region of the stack that was read last, as mostly. A row is kept where two searches in a row that
+/// come to its place are for its address, and the module is prepared.
 ///
 /// It has a fixed number of places, made once, and serves stack after stack over the space, each over
 /// an image of its own. What it keeps is what a search answers, so that no step depends on it.
@@ -177,7 +183,9 @@ impl<'c, 't> FrameCache<'c, 't> {
     /// answers whether there is one. At the end of the stack and after a fault the state is as before.
     /// The stepper goes over the cache's space.
     ///
-    /// A row that is kept counts one step.
+    /// A step by a row that is kept counts one step. Where the row's CFA isn't a register and an offset,
+    /// or its registers don't lie close below that in the region of the stack that was read last, it is
+    /// searched for as if none were kept.
     ///
     /// # Errors
     ///
@@ -216,7 +224,8 @@ impl<'c, 't> FrameCache<'c, 't> {
         self.advance_by_search(stepper, state, address, steps)
     }
 
-    /// The same by a search, and keeps what it finds.
+    /// The same by a search. The row that it finds is kept where the last search that came to its place
+    /// was for its address, too.
     #[inline(always)]
     fn advance_by_search<'a, L: Ledger>(
         &mut self,
@@ -258,6 +267,24 @@ impl<'c, 't> FrameCache<'c, 't> {
             }
             Ok(None) => Ok(false),
             Err(error) => Err(error),
+        }
+    }
+
+    /// The function that is described at an address of the space, as [`Space::described_function`]
+    /// answers. Where a row is kept, nothing is searched.
+    #[inline(always)]
+    pub fn described_function(&mut self, address: u64) -> Option<DescribedFunction>
+        ensures function { result ≡ described_function self.old address }
+        ensures same { self.new ≡ self.old }
+    {
+        // Its regions are laid out, as the image's type says.
+        let _ = self.space.image();
+        match self.rows.find(address) {
+            Some(cached) => Some(DescribedFunction {
+                start: cached.start,
+                signal: cached.signal,
+            }),
+            None => self.space.described_near(address, &mut self.near),
         }
     }
 
@@ -305,10 +332,12 @@ fn found_row<'f, 't, L: Ledger>(
     let Some(frame) = table.index.frame(address, steps) else {
         return Ok(None);
     };
+    let start = frame.fde().initial_address();
     let signal = frame.is_signal_trampoline();
     match frame.into_row() {
         Ok(row) => Ok(Some(CachedRow {
             address,
+            start,
             signal,
             row,
         })),

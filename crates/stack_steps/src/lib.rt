@@ -7,6 +7,7 @@ mod elf;
 mod error;
 mod frame_cache;
 mod frames;
+mod functions;
 mod grown;
 mod languages;
 mod laws;
@@ -24,9 +25,12 @@ pub use error::DeliverError;
 pub use format_frames::Stepped;
 pub use frame_cache::FrameCache;
 pub use frames::FoundFrame;
+pub use functions::DescribedFunction;
 pub use grown::{GrownSpace, an_image_grows};
 pub use languages::Languages;
-pub use laws::{a_module_is_prepared, rust_alone_asks_by_rust};
+pub use laws::{
+    a_frame_is_that_of_the_described_function, a_module_is_prepared, rust_alone_asks_by_rust,
+};
 pub use macho::CompactFrame;
 pub use pe::RecordedFrame;
 pub use prepared::PreparedTable;

@@ -290,7 +290,7 @@ where
     Err(DeliverError::FrameLimit)
 }
 
-/// The same by the rows that a cache keeps, so that a frame at an address that was asked before needs
+/// The same by the rows that a cache keeps, so that most frames at addresses whose rows are there need
 /// no search.
 pub(crate) fn unwind_frames_cached<'t, 'a, L: Ledger>(
     cache: &mut FrameCache<'_, 't>,

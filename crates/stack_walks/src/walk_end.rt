@@ -334,8 +334,9 @@ where
     walk_to_end(space, start, interrupted, limit, room, steps)
 }
 
-/// Walks as [`walk_to_end_over`] does, by the rows that a cache of the same space keeps. A frame at an
-/// address that was asked before, in whichever walk, needs no search, and counts one step.
+/// Walks as [`walk_to_end_over`] does, by the rows that a cache of the same space keeps. Most frames at
+/// addresses whose rows it keeps, from whichever walk, need no search and count one step, as
+/// [`FrameCache`] says.
 pub fn walk_to_end_cached<'t, 'a, L: Ledger>(
     cache: &mut FrameCache<'_, 't>,
     space: &GrownSpace<'_, 't, 'a>,

@@ -1,5 +1,6 @@
 use Rattle.std.proofs.Common.{◌≡◌, sym, ap, subst, ◌∙◌, Result, Ok, Err}
 use Rattle.unwind_definitions.specs.declared.error.Error.{Error as Fault}
+use Rattle.unwind_definitions.specs.Entries.{Fde}
 use Rattle.unwind_definitions.specs.Row.{row_at}
 use Rattle.encoded_pointers.specs.PointerViews.{bases_of}
 use Rattle.frame_rows.specs.Rows.{GivesRow}
@@ -37,5 +38,6 @@ returns-in-Ok-clause-row g c image tables laid is =
       frame = record { found = seen_by t frame.fde; run = made.0 };
       is_due = shown_row image tables t c.args.address frame.fde made.0 laid is scanned made.1;
       row = made.2;
+      start = c.initial_address-start.ensures ∙ ap (λ (f : Fde). f.start) c.fde.ensures;
       signal = c.is_signal_trampoline-signal.ensures;
     }
