@@ -21,14 +21,14 @@ both_true false b e = absurd cc
 
 -- a stack of this name, end, mark and return addresses is that of a key
 abbrev key_eq : Bool → List ℕ → StackEnd → Bool → List ℕ → SampledStack → Bool
-key_eq named name end popped returns k = beq named k.named && (pointwise nat_eq name k.name.items && (ends.eq-value.it end k.end && (beq popped k.popped && pointwise nat_eq returns k.returns.items)))
+key_eq named name end popped places k = beq named k.named && (pointwise nat_eq name k.name.items && (ends.eq-value.it end k.end && (beq popped k.popped && pointwise nat_eq places k.places.items)))
 
-eq_is : (a k : SampledStack) → stacks.eq-value.it a k ≡ key_eq a.named a.name.items a.end a.popped a.returns.items k
+eq_is : (a k : SampledStack) → stacks.eq-value.it a k ≡ key_eq a.named a.name.items a.end a.popped a.places.items k
 eq_is a k = refl
 
 -- a copy is the same as each key that the stack is the same as
-pub copy_same : (a b : SampledStack) → a.named ≡ b.named → a.name.items ≡ b.name.items → a.end ≡ b.end → a.popped ≡ b.popped → a.returns.items ≡ b.returns.items → (k : SampledStack) → stacks.eq-value.it a k ≡ stacks.eq-value.it b k
-copy_same a b named names ends marks returns k = eq_is a k ∙ ((λ i. key_eq (named i) (names i) (ends i) (marks i) (returns i) k) ∙ sym (eq_is b k))
+pub copy_same : (a b : SampledStack) → a.named ≡ b.named → a.name.items ≡ b.name.items → a.end ≡ b.end → a.popped ≡ b.popped → a.places.items ≡ b.places.items → (k : SampledStack) → stacks.eq-value.it a k ≡ stacks.eq-value.it b k
+copy_same a b named names ends marks places k = eq_is a k ∙ ((λ i. key_eq (named i) (names i) (ends i) (marks i) (places i) k) ∙ sym (eq_is b k))
 
 -- and what is told of stacks that are the same is the same
 abbrev name_by : Bool → List ℕ → Option (List ℕ)
@@ -45,7 +45,7 @@ marks_same false true e = absurd cc
 
 pub same_text : (a k : SampledStack) → stacks.eq-value.it a k ≡ true → (origins : List OriginValue) → shown_text origins k ≡ shown_text origins a
 same_text a k e origins =
-    let returned = pointwise nat_eq a.returns.items k.returns.items in
+    let returned = pointwise nat_eq a.places.items k.places.items in
     let spelled = pointwise nat_eq a.name.items k.name.items in
     let all = both_true (beq a.named k.named) (spelled && (ends.eq-value.it a.end k.end && (beq a.popped k.popped && returned))) (sym (eq_is a k) ∙ e) in
     let parts = both_true spelled (ends.eq-value.it a.end k.end && (beq a.popped k.popped && returned)) all.1 in
@@ -55,11 +55,11 @@ same_text a k e origins =
     let name = (bytes_decides a.name.items k.name.items).0 parts.0 in
     let end = ends_same a.end k.end others.0 in
     let popped = marks_same a.popped k.popped last.0 in
-    let returns = (bytes_decides a.returns.items k.returns.items).0 last.1 in
-    sym (λ i. stack_text origins (name_by (named i) (name i)) (record { returns = returns i; end = end i; popped = popped i }))
+    let places = (bytes_decides a.places.items k.places.items).0 last.1 in
+    sym (λ i. stack_text origins (name_by (named i) (name i)) (record { places = places i; end = end i; popped = popped i }))
 
-pub copy_text : (a b : SampledStack) → a.named ≡ b.named → a.name.items ≡ b.name.items → a.end ≡ b.end → a.popped ≡ b.popped → a.returns.items ≡ b.returns.items → (origins : List OriginValue) → shown_text origins a ≡ shown_text origins b
-copy_text a b named names ends marks returns origins = λ i. stack_text origins (name_by (named i) (names i)) (record { returns = returns i; end = ends i; popped = marks i })
+pub copy_text : (a b : SampledStack) → a.named ≡ b.named → a.name.items ≡ b.name.items → a.end ≡ b.end → a.popped ≡ b.popped → a.places.items ≡ b.places.items → (origins : List OriginValue) → shown_text origins a ≡ shown_text origins b
+copy_text a b named names ends marks places origins = λ i. stack_text origins (name_by (named i) (names i)) (record { places = places i; end = ends i; popped = marks i })
 
 -- tests that answer alike find the same
 pub lookup_same : {K X : Type 0} (test other : K → Bool) (es : List (K × X)) → ((k : K) → test k ≡ other k) → lookup test es ≡ lookup other es

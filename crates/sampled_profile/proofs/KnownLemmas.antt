@@ -26,7 +26,8 @@ use Rattle.folded_stacks.proofs.Counting.{counts_cons, one_if}
 use Rattle.folded_stacks.proofs.Orders.{is_same_by}
 use Rattle.sampled_profile.specs.Ends.{returns_of}
 use Rattle.sampled_profile.specs.KnownSamples.{BeginsKnownStack, HasSample, known_lines, known_text, known_walk}
-use Rattle.sampled_profile.specs.Names.{name_of}
+use Rattle.sampled_profile.specs.Frames.{frames_of}
+use Rattle.sampled_profile.specs.Names.{name_of, process_name_of}
 use Rattle.sampled_profile.specs.Profiles.{Tables, read_all, stacks_of}
 use Rattle.sampled_profile.specs.Scripts.{sample_lines, script_text}
 use Rattle.sampled_profile.specs.Texts.{stack_text}
@@ -71,20 +72,20 @@ module _ (space : SpaceValue) (limit : ℕ) (apart : AreApart 0 space.modules) (
 
 module _ (t : Tables) (apart : AreApart 0 t.space.modules) (laid : IsLaidOut 0 t.space.image) (earlier : List RecordValue) (sample : SampleValue) (s : State) (callers : List State)
     (is : BeginsKnownStack t.space t.limit sample s callers) where
-  text_known : stack_text t.origins (name_of earlier sample.thread) (walk_of t.space t.limit sample) ≡ known_text t earlier sample s callers is
-  text_known = ap (stack_text t.origins (name_of earlier sample.thread)) (walk_known t.space t.limit apart laid sample s callers is)
+  text_known : stack_text t.origins (process_name_of earlier sample.thread) (frames_of t.space (walk_of t.space t.limit sample)) ≡ known_text t earlier sample s callers is
+  text_known = ap (λ w. stack_text t.origins (process_name_of earlier sample.thread) (frames_of t.space w)) (walk_known t.space t.limit apart laid sample s callers is)
 
   counted : (later : List RecordValue) → 1 ≤ count_by (is_same (known_text t earlier sample s callers is)) (stacks_of t (later ++ Sampled sample ∷ earlier))
   counted [] =
       let q = known_text t earlier sample s callers is in
-      let text = stack_text t.origins (name_of earlier sample.thread) (walk_of t.space t.limit sample) in
+      let text = stack_text t.origins (process_name_of earlier sample.thread) (frames_of t.space (walk_of t.space t.limit sample)) in
       let both = counts_cons q text (stacks_of t earlier) in
       let one : one_if (is_same q text) ≡ 1 = rw (is_same_by q text (sym text_known)) refl in
       omega arith
   counted (Sampled k ∷ later) =
       let q = known_text t earlier sample s callers is in
       let rest = later ++ Sampled sample ∷ earlier in
-      let both = counts_cons q (stack_text t.origins (name_of rest k.thread) (walk_of t.space t.limit k)) (stacks_of t rest) in
+      let both = counts_cons q (stack_text t.origins (process_name_of rest k.thread) (frames_of t.space (walk_of t.space t.limit k))) (stacks_of t rest) in
       let there = counted later in
       omega arith
   counted (Mapped m ∷ later) = counted later
@@ -100,8 +101,8 @@ module _ (t : Tables) (apart : AreApart 0 t.space.modules) (laid : IsLaidOut 0 t
       let some : 1 ≤ count_by (is_same q) (stacks_of t records) = subst (λ rs. 1 ≤ count_by (is_same q) (stacks_of t rs)) (sym has.1) (counted has.0) in
       (count_by (is_same q) (stacks_of t records), (folded.exact q (count_by (is_same q) (stacks_of t records))).1 (some, refl))
 
-  lines_known : sample_lines t.origins (name_of earlier sample.thread) sample (walk_of t.space t.limit sample) ≡ known_lines t earlier sample s callers is
-  lines_known = ap (sample_lines t.origins (name_of earlier sample.thread) sample) (walk_known t.space t.limit apart laid sample s callers is)
+  lines_known : sample_lines t.space t.origins (name_of earlier sample.thread) sample (walk_of t.space t.limit sample) ≡ known_lines t earlier sample s callers is
+  lines_known = ap (sample_lines t.space t.origins (name_of earlier sample.thread) sample) (walk_known t.space t.limit apart laid sample s callers is)
 
   abbrev pub placed_in : List RecordValue → Type 0
   placed_in records = (after : List ℕ) × (script_text t records ≡ script_text t earlier ++ known_lines t earlier sample s callers is ++ after)
@@ -112,7 +113,7 @@ module _ (t : Tables) (apart : AreApart 0 t.space.modules) (laid : IsLaidOut 0 t
       ([], ap (λ lines. front ++ lines) lines_known ∙ sym (append-nil (front ++ known_lines t earlier sample s callers is)))
   placed (Sampled k ∷ later) =
       let rest = later ++ Sampled sample ∷ earlier in
-      let more = sample_lines t.origins (name_of rest k.thread) k (walk_of t.space t.limit k) in
+      let more = sample_lines t.space t.origins (name_of rest k.thread) k (walk_of t.space t.limit k) in
       let there = placed later in
       (there.0 ++ more, ap (λ text. text ++ more) there.1 ∙ append_assoc (script_text t earlier ++ known_lines t earlier sample s callers is) there.0 more)
   placed (Mapped m ∷ later) = placed later

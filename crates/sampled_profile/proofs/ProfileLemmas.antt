@@ -19,13 +19,14 @@ use Rattle.sampled_profile.specs.Told.{Gives}
 use Rattle.sampled_profile.specs.declared.profile.Tally.{Tally}
 use Rattle.sampled_profile.specs.declared.stack_table.StackTable.{StackTable}
 use Rattle.sampled_profile.specs.Kept.{Counts, IsCounted, IsTally, Knows}
-use Rattle.sampled_profile.specs.Names.{name_of}
+use Rattle.sampled_profile.specs.Frames.{frames_of}
+use Rattle.sampled_profile.specs.Names.{process_name_of}
 use Rattle.sampled_profile.specs.Profiles.{Tables, tables, read_after, read_all, stacks_of, profile_of}
-use Rattle.sampled_profile.specs.Tables.{CountsOneMore, ShowsStacks, shown_name, shown_text, shown_walk, total_of}
+use Rattle.sampled_profile.specs.Tables.{CountsOneMore, ShowsStacks, shown_name, shown_text, shown_frames, total_of}
 use Rattle.sampled_profile.specs.Texts.{stack_text}
 use Rattle.sampled_profile.specs.Walks.{walk_of}
 use Rattle.sampled_profile.proofs.TableLemmas.{shows_more}
-use Rattle.sampled_profile.proofs.WalkLemmas.{other, walk_same}
+use Rattle.sampled_profile.proofs.WalkLemmas.{frames_same, other, walk_same}
 
 abbrev made_ok : List StackCount → Result (List StackCount) PerfError
 made_ok x = Ok x
@@ -57,16 +58,23 @@ counts_few t tally earlier left all is long some few =
 -- ---- one record more
 
 -- that of a sample
-pub sample_noted : (t : Tables) (earlier : List RecordValue) (s : SampleValue) (old new : Tally) → IsTally t old earlier → shown_name new.last ≡ name_of earlier s.thread → shown_walk new.last ≡ walk_of t.space t.limit s
+pub sample_noted : (t : Tables) (earlier : List RecordValue) (s : SampleValue) (old new : Tally) → IsTally t old earlier → shown_name new.last ≡ process_name_of earlier s.thread → shown_frames new.last ≡ frames_of t.space (walk_of t.space t.limit s)
     → CountsOneMore new.last old.stacks.counts.entries new.stacks.counts.entries → new.names ≡ old.names → new.room.limit ≡ old.room.limit → IsTally t new (Sampled s ∷ earlier)
-sample_noted t earlier s old new is name walk counted names places =
-    let text : shown_text t.origins new.last ≡ stack_text t.origins (name_of earlier s.thread) (walk_of t.space t.limit s) = λ i. stack_text t.origins (name i) (walk i) in
+sample_noted t earlier s old new is name frames counted names places =
+    let text : shown_text t.origins new.last ≡ stack_text t.origins (process_name_of earlier s.thread) (frames_of t.space (walk_of t.space t.limit s)) = λ i. stack_text t.origins (name i) (frames i) in
     record {
       names = subst (λ n. Knows n earlier) (sym names) is.names;
-      shows = shows_more t.origins new.last old.stacks.counts.entries new.stacks.counts.entries (stacks_of t earlier) (stack_text t.origins (name_of earlier s.thread) (walk_of t.space t.limit s)) counted text is.shows;
+      shows = shows_more t.origins new.last old.stacks.counts.entries new.stacks.counts.entries (stacks_of t earlier) (stack_text t.origins (process_name_of earlier s.thread) (frames_of t.space (walk_of t.space t.limit s))) counted text is.shows;
       total = let one = counted.total in let before = is.total in omega arith;
       places = places ∙ is.places;
     }
+
+-- over the space that a cache is of
+pub noted_over : (limit : ℕ) (old new : Tally) (earlier : List RecordValue) (r : RecordValue) (cached space : SpaceValue) → cached ≡ space
+    → ((origins : List OriginValue) (before : List RecordValue) → IsTally (tables cached origins limit) old before → IsTally (tables cached origins limit) new (r ∷ before))
+    → (origins : List OriginValue) → IsTally (tables space origins limit) old earlier → IsTally (tables space origins limit) new (r ∷ earlier)
+noted_over limit old new earlier r cached space same noted origins =
+    subst (λ (s : SpaceValue). IsTally (tables s origins limit) old earlier → IsTally (tables s origins limit) new (r ∷ earlier)) same (noted origins earlier)
 
 -- ---- all of them
 
@@ -142,9 +150,10 @@ module _ (s : SpaceValue) (added : List Added) (origins : List OriginValue) (lim
   stacks_same : (earlier : List RecordValue) → stacks_of prepared earlier ≡ stacks_of plain earlier
   stacks_same [] = refl
   stacks_same (Sampled k ∷ earlier) =
-      let here = walk_same s added limit k in
+      let here : frames_of (other s added) (walk_of (other s added) limit k) ≡ frames_of s (walk_of s limit k) =
+      frames_same s added (walk_of (other s added) limit k) ∙ ap (frames_of s) (walk_same s added limit k) in
       let rest = stacks_same earlier in
-      λ i. stack_text origins (name_of earlier k.thread) (here i) ∷ rest i
+      λ i. stack_text origins (process_name_of earlier k.thread) (here i) ∷ rest i
   stacks_same (Mapped m ∷ earlier) = stacks_same earlier
   stacks_same (Named n ∷ earlier) = stacks_same earlier
   stacks_same (Forked k ∷ earlier) = stacks_same earlier

@@ -1,6 +1,6 @@
 -- The samples of a file one after another: their frames one by one, what is due, and that it doesn't depend on which modules are
 -- prepared.
-use Rattle.std.proofs.Common.{◌≡◌, ◌+◌, ◌==◌, ℕ, false, List, [], ◌∷◌, ◌++◌, drop, slice_get, Some, Result, Ok, Err, refl, sym, ap, subst, ◌∙◌, append_assoc, arith}
+use Rattle.std.proofs.Common.{◌≡◌, ◌+◌, ℕ, Bool, true, List, Option, [], ◌∷◌, ◌++◌, drop, slice_get, Some, Result, Ok, Err, refl, sym, ap, subst, ◌∙◌, append_assoc, arith}
 use Rattle.std.specs.Prelude.{IsErrAnd}
 use Rattle.std.proofs.lemmas.Bool.{ne_eqb}
 use Rattle.std.proofs.lemmas.List.{drop_more}
@@ -12,40 +12,32 @@ use Rattle.perf_data.specs.declared.errors.PerfError.{PerfError}
 use Rattle.perf_data.specs.Records.{RecordValue, Sampled, Mapped, Named, Forked, Exited, OtherKind}
 use Rattle.stack_steps.specs.Modules.{Added, SpaceValue}
 use Rattle.stack_snapshot.specs.Origins.{OriginValue}
-use Rattle.sampled_profile.specs.Ends.{returns_of}
+use Rattle.sampled_profile.specs.Ends.{StackWalk, end_word, popped_word, returns_of}
+use Rattle.sampled_profile.specs.declared.script.Script.{Script}
+use Rattle.sampled_profile.specs.Kept.{IsScript}
 use Rattle.sampled_profile.specs.Names.{name_of}
 use Rattle.sampled_profile.specs.Profiles.{Tables, tables, read_after, read_all}
-use Rattle.sampled_profile.specs.Scripts.{frame_line, frame_lines, sample_lines, script_text, script_of}
+use Rattle.sampled_profile.specs.Scripts.{frame_lines, head_line, mark_line, sample_lines, script_text, script_of}
 use Rattle.sampled_profile.specs.declared.profile.ProfileError.{ProfileError}
 use Rattle.sampled_profile.specs.declared.profile.ProfileError.TheVariants.{NoMemory, Unread}
 use Rattle.sampled_profile.specs.Reading.{ReadsNext}
 use Rattle.sampled_profile.specs.Told.{Gives}
 use Rattle.sampled_profile.proofs.ProfileLemmas.{read_failed}
-use Rattle.sampled_profile.proofs.WalkLemmas.{other, walk_same}
+use Rattle.sampled_profile.proofs.WalkLemmas.{addresses_same, other, walk_same}
+use Rattle.sampled_profile.proofs.TextLemmas.{returns_from}
+use Rattle.sampled_profile.specs.Frames.{addresses_of}
+use Rattle.sampled_profile.specs.Walks.{walk_of}
+use Rattle.perf_data.specs.Samples.{SampleValue}
 
 -- ---- frames
 
--- of return addresses from a place on, at the first of all of which the thread was interrupted
-abbrev pub lines_from : List OriginValue → ℕ → List ℕ → List ℕ
-lines_from origins i returns = frame_lines origins (i == 0) (drop i returns)
-
-lines_more : (origins : List OriginValue) (returns : List ℕ) (i a : ℕ) → slice_get returns i ≡ Some a → lines_from origins i returns ≡ frame_line origins (i == 0) a ++ lines_from origins (i + 1) returns
-lines_more origins returns i a at =
-    let later : (i + 1 == 0) ≡ false = ne_eqb (i + 1) 0 (λ e. omega arith) in
-    ap (frame_lines origins (i == 0)) (drop_more returns i a (slice_get_within returns i a at) ∙ ap (λ d. d ∷ drop (i + 1) returns) (get_or_from_slice_get returns i a a at))
-    ∙ ap (λ b. frame_line origins (i == 0) a ++ frame_lines origins b (drop (i + 1) returns)) (sym later)
-
--- the return address of a state
-returns_get : (states : List Context) (i : ℕ) (c : Context) → slice_get states i ≡ Some c → slice_get (returns_of states) i ≡ Some c.ra
-returns_get states i c at = slice_get-map (λ (d : Context). d.ra) states i ∙ ap (option_map (λ (d : Context). d.ra)) at
-
 -- one more on the way outwards
-pub put_more_lines : (origins : List OriginValue) (states : List Context) (i : ℕ) (c : Context) (all old new : List ℕ) → slice_get states i ≡ Some c → old ++ lines_from origins i (returns_of states) ≡ all
-    → new ≡ old ++ frame_line origins (i == 0) c.ra → new ++ lines_from origins (i + 1) (returns_of states) ≡ all
-put_more_lines origins states i c all old new at before put =
-    ap (λ s. s ++ lines_from origins (i + 1) (returns_of states)) put
-    ∙ (append_assoc old (frame_line origins (i == 0) c.ra) (lines_from origins (i + 1) (returns_of states))
-    ∙ (ap (λ s. old ++ s) (sym (lines_more origins (returns_of states) i c.ra (returns_get states i c at))) ∙ before))
+pub one_more_line : (space : SpaceValue) (origins : List OriginValue) (states : List Context) (i : ℕ) (c : Context) (interrupted signal : Bool) (old new all : List ℕ) → slice_get states i ≡ Some c
+    → old ++ frame_lines origins (addresses_of space interrupted (returns_of (drop i states))) ≡ all
+    → ((outer : List ℕ) → new ++ frame_lines origins (addresses_of space signal outer) ≡ old ++ frame_lines origins (addresses_of space interrupted (c.ra ∷ outer)))
+    → new ++ frame_lines origins (addresses_of space signal (returns_of (drop (i + 1) states))) ≡ all
+one_more_line space origins states i c interrupted signal old new all at before put =
+    put (returns_of (drop (i + 1) states)) ∙ (ap (λ rs. old ++ frame_lines origins (addresses_of space interrupted rs)) (sym (returns_from states i c at)) ∙ before)
 
 -- ---- words in a frame's place
 
@@ -55,6 +47,15 @@ put_three old one two three first second third last e f g =
     let texts : three ≡ old ++ (first ++ (second ++ third)) =
     g ∙ (ap (λ s. s ++ third) (f ∙ ap (λ s. s ++ second) e) ∙ (append_assoc (old ++ first) second third ∙ append_assoc old first (second ++ third))) in
     ap (λ s. s ++ last) texts ∙ append_assoc old (first ++ (second ++ third)) last
+
+-- ---- one record more
+
+-- over the space that a cache is of
+pub script_over : (origins : List OriginValue) (limit : ℕ) (old new : Script) (earlier : List RecordValue) (r : RecordValue) (cached space : SpaceValue) → cached ≡ space
+    → ((before : List RecordValue) → IsScript (tables cached origins limit) old before → IsScript (tables cached origins limit) new (r ∷ before))
+    → IsScript (tables space origins limit) old earlier → IsScript (tables space origins limit) new (r ∷ earlier)
+script_over origins limit old new earlier r cached space same noted =
+    subst (λ (s : SpaceValue). IsScript (tables s origins limit) old earlier → IsScript (tables s origins limit) new (r ∷ earlier)) same (noted earlier)
 
 -- ---- what is due
 
@@ -81,6 +82,11 @@ failed_script (Err f) t all left rest earlier e is reads so_far = subst (λ (g :
 
 -- ---- prepared modules
 
+lines_same : (s : SpaceValue) (added : List Added) (origins : List OriginValue) (name : Option (List ℕ)) (k : SampleValue) (w : StackWalk) → sample_lines (other s added) origins name k w ≡ sample_lines s origins name k w
+unfolding sample_lines
+lines_same s added origins name k w =
+    ap (λ addresses. head_line name k ++ (mark_line (popped_word w.popped) ++ (frame_lines origins addresses ++ mark_line (end_word w.end))) ++ 10 ∷ []) (addresses_same s added true w.returns)
+
 module _ (s : SpaceValue) (added : List Added) (origins : List OriginValue) (limit : ℕ) where
   abbrev prepared : Tables
   prepared = tables (other s added) origins limit
@@ -91,7 +97,8 @@ module _ (s : SpaceValue) (added : List Added) (origins : List OriginValue) (lim
   text_same : (earlier : List RecordValue) → script_text prepared earlier ≡ script_text plain earlier
   text_same [] = refl
   text_same (Sampled k ∷ earlier) =
-      let here = ap (sample_lines origins (name_of earlier k.thread) k) (walk_same s added limit k) in
+      let here : sample_lines (other s added) origins (name_of earlier k.thread) k (walk_of (other s added) limit k) ≡ sample_lines s origins (name_of earlier k.thread) k (walk_of s limit k) =
+      lines_same s added origins (name_of earlier k.thread) k (walk_of (other s added) limit k) ∙ ap (sample_lines s origins (name_of earlier k.thread) k) (walk_same s added limit k) in
       let rest = text_same earlier in
       λ i. rest i ++ here i
   text_same (Mapped m ∷ earlier) = text_same earlier

@@ -1,10 +1,12 @@
 -- The walk of a sample doesn't depend on which modules are prepared.
-use Rattle.std.proofs.Common.{◌≡◌, ℕ, zero, suc, Bool, true, List, Option, Some, None, Result, Ok, Err, refl, ap, ◌∙◌}
+use Rattle.std.proofs.Common.{◌≡◌, ◌==◌, ℕ, map, zero, suc, Bool, true, false, if◌then◌else◌, List, [], ◌∷◌, Option, Some, None, Result, Ok, Err, refl, ap, ◌∙◌}
+use Rattle.unwind_definitions.specs.LanguageSearch.{address_of_call}
 use Rattle.unwind_arch.specs.declared.x86_64.Context.{Context}
 use Rattle.format_frames.specs.declared.machine.Stepped.{Stepped}
 use Rattle.perf_data.specs.Samples.{SampleValue}
 use Rattle.stack_steps.specs.declared.error.DeliverError.{DeliverError}
 use Rattle.stack_steps.specs.Modules.{Added, SpaceValue}
+use Rattle.stack_steps.specs.Functions.{described_function}
 use Rattle.stack_steps.specs.Growing.{over_image}
 use Rattle.stack_steps.specs.Stepping.{frame_of, step_of}
 use Rattle.stack_walks.specs.WalkEnds.{caller_in, caller_from, start_state, contexts_to_end}
@@ -12,7 +14,8 @@ use Rattle.stack_walks.proofs.Reaching.{same_reached}
 use Rattle.delivery_laws.proofs.SameAnswers.{step_same}
 use Rattle.popped_registers.specs.PoppedRegisters.{are_some, is_popped, kept_over, kept_space, popped_in}
 use Rattle.sampled_profile.specs.declared.stack_end.StackEnd.{StackEnd}
-use Rattle.sampled_profile.specs.Ends.{returns_of}
+use Rattle.sampled_profile.specs.Ends.{StackWalk, returns_of}
+use Rattle.sampled_profile.specs.Frames.{addresses_of, asked_then, frames_of, place_in, places_of}
 use Rattle.sampled_profile.specs.Walks.{end_after, end_of, sample_space, start_of, walk_by, walk_from, walk_of, walk_over}
 
 module _ (s : SpaceValue) (added : List Added) where
@@ -33,6 +36,22 @@ module _ (s : SpaceValue) (added : List Added) where
 
   over_same : (limit : ℕ) (c : Context) (popped : Bool) → walk_over other limit c popped ≡ walk_over s limit c popped
   over_same limit c popped = let states = front_same limit c in let last = end_same limit c true in λ i. record { returns = returns_of (states i); end = last i; popped = popped }
+
+  -- nor do the functions of its frames
+  pub addresses_same : (interrupted : Bool) (returns : List ℕ) → addresses_of other interrupted returns ≡ addresses_of s interrupted returns
+  unfolding described_function
+  addresses_same interrupted [] = refl
+  addresses_same interrupted (a ∷ returns) =
+      let asked = address_of_call a interrupted in
+      let rest : (signal : Bool) → addresses_of other signal returns ≡ addresses_of s signal returns = λ signal. addresses_same signal returns in
+      λ i. if a == 0 then rest false i else asked_then s asked (λ signal. rest signal i)
+
+  pub places_same : (interrupted : Bool) (returns : List ℕ) → places_of other interrupted returns ≡ places_of s interrupted returns
+  unfolding described_function
+  places_same interrupted returns = ap (map (place_in s)) (addresses_same interrupted returns)
+
+  pub frames_same : (w : StackWalk) → frames_of other w ≡ frames_of s w
+  frames_same w = let places = places_same true w.returns in λ i. record { places = places i; end = w.end; popped = w.popped }
 
   popped_same : (limit : ℕ) (c : Context) → popped_in other limit c ≡ popped_in s limit c
   unfolding popped_in step_of frame_of

@@ -26,6 +26,13 @@ pub record StackWalk : Type 0 where
   pub end : StackEnd
   pub popped : Bool
 
+-- What a profile tells of a stack: where its frames are by their functions, the innermost first; why it is told no
+-- further; and whether popped registers were kept.
+pub record StackFrames : Type 0 where
+  pub places : List ℕ
+  pub end : StackEnd
+  pub popped : Bool
+
 -- the return addresses of states
 abbrev pub returns_of : List Context → List ℕ
 returns_of states = map (λ (c : Context). c.ra) states

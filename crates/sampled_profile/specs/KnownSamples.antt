@@ -8,7 +8,8 @@ use Rattle.perf_data.specs.Samples.{SampleValue}
 use Rattle.stack_steps.specs.Modules.{SpaceValue}
 use Rattle.stack_walks.specs.KnownWalks.{StartsKnownStack, end_reason_of_stack}
 use Rattle.sampled_profile.specs.Ends.{StackWalk}
-use Rattle.sampled_profile.specs.Names.{name_of}
+use Rattle.sampled_profile.specs.Frames.{frames_of}
+use Rattle.sampled_profile.specs.Names.{name_of, process_name_of}
 use Rattle.sampled_profile.specs.Profiles.{Tables}
 use Rattle.sampled_profile.specs.Scripts.{sample_lines}
 use Rattle.sampled_profile.specs.Texts.{stack_text}
@@ -35,7 +36,10 @@ HasSample records sample earlier = (later : List RecordValue) × (records ≡ la
 module _ (t : Tables) (earlier : List RecordValue) (sample : SampleValue) (s : State) (callers : List State) (is : BeginsKnownStack t.space t.limit sample s callers) where
   -- the text of its stack, and the lines of it
   abbrev pub known_text : List ℕ
-  known_text = stack_text t.origins (name_of earlier sample.thread) (known_walk t.space t.limit sample s callers is)
+  known_text =
+      stack_text t.origins (process_name_of earlier sample.thread)
+      (frames_of t.space (known_walk t.space t.limit sample s callers is))
 
   abbrev pub known_lines : List ℕ
-  known_lines = sample_lines t.origins (name_of earlier sample.thread) sample (known_walk t.space t.limit sample s callers is)
+  known_lines =
+      sample_lines t.space t.origins (name_of earlier sample.thread) sample (known_walk t.space t.limit sample s callers is)

@@ -1,8 +1,10 @@
--- What a profile tells, in an order to read it in: the name that a thread has, what is told of a stack, the walk of a sample and why
--- it ends, the text of a stack, the distinct ones of a file, and its samples one after another.
+-- What a profile tells, in an order to read it in: the names that a thread and its process have, what is told of a stack,
+-- the walk of a sample and why it ends, its frames by their functions, the text of a stack, the distinct ones of a file,
+-- and its samples one after another.
 pub mod Names
 pub mod Ends
 pub mod Walks
+pub mod Frames
 pub mod Texts
 pub mod Profiles
 pub mod Scripts

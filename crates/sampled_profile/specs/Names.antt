@@ -48,3 +48,12 @@ name_in earlier thread = name_within 16 (own_name earlier) (parent_of earlier) t
 abbrev pub name_of : List RecordValue → Option Thread → Option (List ℕ)
 name_of earlier None = None
 name_of earlier (Some t) = name_in earlier t.tid
+
+-- Of its process: the name of the thread that has the process's number or, where no record tells that, the thread's own.
+abbrev pub first_name : Option (List ℕ) → Option (List ℕ) → Option (List ℕ)
+first_name (Some name) other = Some name
+first_name None other = other
+
+abbrev pub process_name_of : List RecordValue → Option Thread → Option (List ℕ)
+process_name_of earlier None = None
+process_name_of earlier (Some t) = first_name (name_in earlier t.pid) (name_in earlier t.tid)

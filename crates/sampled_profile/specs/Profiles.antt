@@ -1,14 +1,17 @@
--- The profile of a perf.data file: its samples' distinct stacks, in order, each with the number of the samples that show it.
+-- The profile of a perf.data file: its samples' distinct stacks, in order, each with the number of the samples that show
+-- it.
 use Rattle.std.specs.Prelude.{ℕ, List, [], ◌∷◌, ◌++◌, Result, Ok, Err, codes}
 use Rattle.std.specs.Fmt.{decimal}
 use Rattle.memory_image.specs.Results.{result_map}
 use Rattle.perf_data.specs.declared.errors.PerfError.{PerfError}
 use Rattle.perf_data.specs.Records.{RecordValue, Sampled, Mapped, Named, Forked, Exited, OtherKind}
+use Rattle.perf_data.specs.Samples.{SampleValue}
 use Rattle.stack_steps.specs.Modules.{SpaceValue}
 use Rattle.folded_stacks.specs.Counts.{StackCount, counts_of}
 use Rattle.stack_snapshot.specs.Origins.{OriginValue}
 use Rattle.stack_report.specs.Report.{line}
-use Rattle.sampled_profile.specs.Names.{name_of}
+use Rattle.sampled_profile.specs.Frames.{frames_of}
+use Rattle.sampled_profile.specs.Names.{process_name_of}
 use Rattle.sampled_profile.specs.Texts.{stack_text}
 use Rattle.sampled_profile.specs.Walks.{walk_of}
 
@@ -30,9 +33,14 @@ pub record Tables : Type 0 where
 abbrev pub tables : SpaceValue → List OriginValue → ℕ → Tables
 tables space origins limit = record { space = space; origins = origins; limit = limit }
 
--- the stacks with that of a record, where it is a sample, whose thread is named by the records before it
+-- the stack of a sample, whose process is named by the records before it
+abbrev pub stack_of : Tables → List RecordValue → SampleValue → List ℕ
+stack_of t earlier s =
+    stack_text t.origins (process_name_of earlier s.thread) (frames_of t.space (walk_of t.space t.limit s))
+
+-- the stacks with that of a record, where it is a sample
 abbrev pub with_stack : Tables → RecordValue → List RecordValue → List (List ℕ) → List (List ℕ)
-with_stack t (Sampled s) earlier stacks = stack_text t.origins (name_of earlier s.thread) (walk_of t.space t.limit s) ∷ stacks
+with_stack t (Sampled s) earlier stacks = stack_of t earlier s ∷ stacks
 with_stack t (Mapped m) earlier stacks = stacks
 with_stack t (Named n) earlier stacks = stacks
 with_stack t (Forked k) earlier stacks = stacks

@@ -1,10 +1,10 @@
--- Samples one after another, in the text form of `perf script`, which collapsers and viewers of profiles read: a line with the name of the
--- thread, its process and its own number, and when the sample was taken; a line that says that popped
--- registers were kept; a line for each frame, the innermost first; one that says why the stack is told no further; and an empty line.
-use Rattle.std.specs.Prelude.{ℕ, zero, suc, ◌/◌, ◌%◌, ◌^◌, ◌==◌, Bool, true, false, List, [], ◌∷◌, ◌++◌, Option, Some, None, Result, codes, if◌then◌else◌}
+-- Samples one after another, in the text form of `perf script`, which collapsers and viewers of profiles read: a line with
+-- the name of the thread, its process and its own number, and when the sample was taken; a line that says that popped
+-- registers were kept; a line for each frame, the innermost first; one that says why the stack is told no further; and an
+-- empty line.
+use Rattle.std.specs.Prelude.{ℕ, zero, suc, ◌/◌, ◌%◌, ◌^◌, false, true, List, [], ◌∷◌, ◌++◌, Option, Some, None, Result, codes}
 use Rattle.std.specs.Fmt.{decimal, digit_glyph}
 use Rattle.memory_image.specs.Results.{result_map}
-use Rattle.unwind_definitions.specs.LanguageSearch.{address_of_call}
 use Rattle.perf_data.specs.declared.errors.PerfError.{PerfError}
 use Rattle.perf_data.specs.declared.sample.Thread.{Thread}
 use Rattle.perf_data.specs.Records.{RecordValue, Sampled, Mapped, Named, Forked, Exited, OtherKind}
@@ -12,6 +12,8 @@ use Rattle.perf_data.specs.Samples.{SampleValue}
 use Rattle.stack_snapshot.specs.Origins.{OriginValue, origin_at}
 use Rattle.stack_report.specs.Digits.{hexadecimal}
 use Rattle.stack_report.specs.Report.{line}
+use Rattle.stack_steps.specs.Modules.{SpaceValue}
+use Rattle.sampled_profile.specs.Frames.{addresses_of}
 use Rattle.sampled_profile.specs.Names.{name_of}
 use Rattle.sampled_profile.specs.Profiles.{Tables, read_all}
 use Rattle.sampled_profile.specs.Texts.{place_text, root_text, written_name}
@@ -51,15 +53,10 @@ placed_text (Some o) a = codes " " ++ place_text (Some o) a ++ (codes " (" ++ wr
 abbrev pub place_line : List OriginValue → ℕ → List ℕ
 place_line origins a = line (codes "\t" ++ hexadecimal a ++ placed_text (origin_at origins a) a)
 
--- A frame by the address of its instruction, as perf has it: that at which the thread was interrupted, or the byte before the return address.
--- The state outside of the outermost frame, whose return address is 0, is no frame.
-unfoldable pub frame_line : List OriginValue → Bool → ℕ → List ℕ
-frame_line origins interrupted a = if a == 0 then [] else place_line origins (address_of_call a interrupted)
-
--- of return addresses from the innermost outwards, at the first of which the thread was interrupted or not
-abbrev pub frame_lines : List OriginValue → Bool → List ℕ → List ℕ
-frame_lines origins interrupted [] = []
-frame_lines origins interrupted (a ∷ returns) = frame_line origins interrupted a ++ frame_lines origins false returns
+-- frames by the addresses of their instructions, as perf has them, from the innermost outwards
+abbrev pub frame_lines : List OriginValue → List ℕ → List ℕ
+frame_lines origins [] = []
+frame_lines origins (a ∷ addresses) = place_line origins a ++ frame_lines origins addresses
 
 -- ---- what is told beside the frames
 
@@ -73,13 +70,23 @@ mark_line (Some word) = word_line word
 
 -- ---- all of it
 
--- a sample of a thread of this name, by its walk
-unfoldable pub sample_lines : List OriginValue → Option (List ℕ) → SampleValue → StackWalk → List ℕ
-sample_lines origins name s w = head_line name s ++ (mark_line (popped_word w.popped) ++ (frame_lines origins true w.returns ++ mark_line (end_word w.end))) ++ 10 ∷ []
+-- the frames of a walk over a space, and what is told beside them
+abbrev pub walk_lines : SpaceValue → List OriginValue → StackWalk → List ℕ
+walk_lines space origins w =
+    mark_line (popped_word w.popped)
+    ++ (frame_lines origins (addresses_of space true w.returns) ++ mark_line (end_word w.end))
 
--- the lines so far with those of a record, where it is a sample, whose thread is named by the records before it
+-- a sample of a thread of this name, by its walk over a space
+unfoldable pub sample_lines : SpaceValue → List OriginValue → Option (List ℕ) → SampleValue → StackWalk → List ℕ
+sample_lines space origins name s w = head_line name s ++ walk_lines space origins w ++ 10 ∷ []
+
+-- the lines of a sample, whose thread is named by the records before it
+abbrev pub lines_of : Tables → List RecordValue → SampleValue → List ℕ
+lines_of t earlier s = sample_lines t.space t.origins (name_of earlier s.thread) s (walk_of t.space t.limit s)
+
+-- the lines so far with those of a record, where it is a sample
 abbrev pub with_lines : Tables → RecordValue → List RecordValue → List ℕ → List ℕ
-with_lines t (Sampled s) earlier before = before ++ sample_lines t.origins (name_of earlier s.thread) s (walk_of t.space t.limit s)
+with_lines t (Sampled s) earlier before = before ++ lines_of t earlier s
 with_lines t (Mapped m) earlier before = before
 with_lines t (Named n) earlier before = before
 with_lines t (Forked k) earlier before = before

@@ -1,4 +1,4 @@
--- Stacks by their addresses with their counts, as a map keeps them. No public clause cites this.
+-- Stacks by their functions with their counts, as a map keeps them. No public clause cites this.
 use Rattle.std.specs.Prelude.{◌≡◌, ℕ, ◌+◌, ◌≤◌, false, cond, List, [], ◌∷◌, length, slice_range, Option, Some, None, if◌then◌else◌}
 use Rattle.std.specs.List.{count_by, sum_by}
 use Rattle.folded_stacks.specs.Counts.{StackCount}
@@ -7,19 +7,19 @@ use Rattle.stack_snapshot.specs.Origins.{OriginValue}
 use Rattle.sampled_profile.specs.declared.frame_texts.KeptText.{KeptText}
 use Rattle.sampled_profile.specs.declared.stack_table.SampledStack.{SampledStack}
 use Rattle.sampled_profile.specs.CountViews.{counted_times}
-use Rattle.sampled_profile.specs.Ends.{StackWalk}
+use Rattle.sampled_profile.specs.Ends.{StackFrames}
 use Rattle.sampled_profile.specs.Texts.{frame_text, stack_text}
 
 -- what is told of a stack
 abbrev pub shown_name : SampledStack → Option (List ℕ)
 shown_name stack = if stack.named then Some stack.name.items else None
 
-abbrev pub shown_walk : SampledStack → StackWalk
-shown_walk stack = record { returns = stack.returns.items; end = stack.end; popped = stack.popped }
+abbrev pub shown_frames : SampledStack → StackFrames
+shown_frames stack = record { places = stack.places.items; end = stack.end; popped = stack.popped }
 
 -- its text
 abbrev pub shown_text : List OriginValue → SampledStack → List ℕ
-shown_text origins stack = stack_text origins (shown_name stack) (shown_walk stack)
+shown_text origins stack = stack_text origins (shown_name stack) (shown_frames stack)
 
 -- how many samples there are, and how many that show a text
 abbrev pub total_of : List (SampledStack × ℕ) → ℕ
@@ -47,8 +47,8 @@ all_counted origins (e ∷ entries) lines = all_counted origins entries (counted
 
 -- ---- texts that are kept
 
--- the text of a caller's frame with this return address stands there among the bytes of all of them
+-- the text of a frame at this place stands there among the bytes of all of them
 pub record IsKept (origins : List OriginValue) (texts : List ℕ) (kept : KeptText) : Type 0 where
   pub ordered : kept.start ≤ kept.end
   pub within : kept.end ≤ length texts
-  pub text : slice_range texts kept.start kept.end ≡ frame_text origins false kept.address
+  pub text : slice_range texts kept.start kept.end ≡ frame_text origins kept.address

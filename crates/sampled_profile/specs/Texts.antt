@@ -1,10 +1,9 @@
--- The text of a stack as collapsers of profiles write it: the name of the thread, why the stack is told no further, its frames, the
--- outermost first, and whether popped registers were kept, with a semicolon before each part but the first.
-use Rattle.std.specs.Prelude.{ℕ, ◌+◌, ◌-◌, ◌%◌, ◌^◌, ◌==◌, ◌||◌, Bool, true, false, List, [], ◌∷◌, ◌++◌, map, Option, Some, None, codes, nat_le, if◌then◌else◌}
-use Rattle.unwind_definitions.specs.LanguageSearch.{address_of_call}
+-- The text of a stack as collapsers of profiles write it: the name of the process, why the stack is told no further, its
+-- frames, the outermost first, and whether popped registers were kept, with a semicolon before each part but the first.
+use Rattle.std.specs.Prelude.{ℕ, ◌+◌, ◌-◌, ◌%◌, ◌^◌, ◌==◌, ◌||◌, List, [], ◌∷◌, ◌++◌, map, Option, Some, None, codes, nat_le, if◌then◌else◌}
 use Rattle.stack_snapshot.specs.Origins.{OriginValue, origin_at, file_name}
 use Rattle.stack_report.specs.Digits.{hexadecimal}
-use Rattle.sampled_profile.specs.Ends.{StackWalk, end_word, popped_word}
+use Rattle.sampled_profile.specs.Ends.{StackFrames, end_word, popped_word}
 
 -- ---- names
 
@@ -29,15 +28,14 @@ abbrev pub place_text : Option OriginValue → ℕ → List ℕ
 place_text None a = hexadecimal a
 place_text (Some o) a = written_name (file_name o.path) ++ codes "+" ++ hexadecimal (offset_in o a)
 
--- A frame: the return address, or that at which the thread was interrupted, by the file of the module that holds the instruction.
--- The state outside of the outermost frame, whose return address is 0, is no frame.
-unfoldable pub frame_text : List OriginValue → Bool → ℕ → List ℕ
-frame_text origins interrupted a = if a == 0 then [] else codes ";" ++ place_text (origin_at origins (address_of_call a interrupted)) a
+-- A frame: where it is told to be, by the file that holds the place.
+unfoldable pub frame_text : List OriginValue → ℕ → List ℕ
+frame_text origins a = codes ";" ++ place_text (origin_at origins a) a
 
--- of return addresses from the innermost outwards, at the first of which the thread was interrupted or not
-abbrev pub frames_text : List OriginValue → Bool → List ℕ → List ℕ
-frames_text origins interrupted [] = []
-frames_text origins interrupted (a ∷ returns) = frames_text origins false returns ++ frame_text origins interrupted a
+-- of places from the innermost outwards
+abbrev pub frames_text : List OriginValue → List ℕ → List ℕ
+frames_text origins [] = []
+frames_text origins (a ∷ places) = frames_text origins places ++ frame_text origins a
 
 -- ---- all of it
 
@@ -45,6 +43,7 @@ abbrev pub word_text : Option (List ℕ) → List ℕ
 word_text None = []
 word_text (Some word) = codes ";" ++ word
 
--- the stack of a thread of this name
-unfoldable pub stack_text : List OriginValue → Option (List ℕ) → StackWalk → List ℕ
-stack_text origins name w = root_text name ++ (word_text (end_word w.end) ++ (frames_text origins true w.returns ++ word_text (popped_word w.popped)))
+-- the stack of a thread of the process of this name
+unfoldable pub stack_text : List OriginValue → Option (List ℕ) → StackFrames → List ℕ
+stack_text origins name w =
+    root_text name ++ (word_text (end_word w.end) ++ (frames_text origins w.places ++ word_text (popped_word w.popped)))

@@ -1,5 +1,5 @@
-// The texts of callers' frames by their addresses, so that most are written once.
-ghost use Rattle.std.specs.Prelude.{◌≡◌, ◌++◌, IfOk, OnOk, false, true};
+// The texts of frames by their addresses, so that most are written once.
+ghost use Rattle.std.specs.Prelude.{◌≡◌, ◌++◌, IfOk, OnOk};
 ghost use Rattle.sampled_profile.specs.Tables.{shown_text};
 ghost use Rattle.sampled_profile.specs.Texts.{frame_text, frames_text};
 
@@ -13,7 +13,7 @@ use std::marker::Model;
 // In how many places texts are kept, each by its address.
 const PLACES: u64 = 8192;
 
-/// Where the text of the caller's frame with a return address is kept.
+/// Where the text of the frame at an address is kept.
 #[derive(Clone, Copy)]
 pub(crate) struct KeptText {
     address: u64,
@@ -21,26 +21,19 @@ pub(crate) struct KeptText {
     end: usize,
 }
 
-// Of the address 0, whose text is empty.
-const NO_TEXT: KeptText = KeptText {
-    address: 0,
-    start: 0,
-    end: 0,
-};
-
-/// The texts of callers' frames by their return addresses: the last one of each place.
+/// The texts of frames by the addresses that they are told to be at: the last one of each place.
 ///
 /// Contracts see the files by which frames are told.
 #[derive(Drop)]
 pub(crate) struct FrameTexts<'o> {
     origins: &'o Origins,
-    places: Vec<KeptText>,
+    places: Vec<Option<KeptText>>,
     // one after another, those that are kept no more among them
     texts: Vec<u8>,
 }
 
 impl<'o> Model for FrameTexts<'o> {
-    ghost use Rattle.std.specs.Prelude.{All, List};
+    ghost use Rattle.std.specs.Prelude.{All, IfSome, List};
     ghost use Rattle.stack_snapshot.specs.Origins.{OriginValue};
     ghost use Rattle.sampled_profile.specs.Tables.{IsKept};
 
@@ -48,7 +41,8 @@ impl<'o> Model for FrameTexts<'o> {
 
     ghost view = { λ t. t.origins.now };
 
-    ghost invariant = { λ t. All (IsKept t.origins.now t.texts.items) t.places.items };
+    ghost invariant = { λ t. All (λ place. IfSome place (IsKept t.origins.now t.texts.items))
+        t.places.items };
 }
 
 impl<'o> FrameTexts<'o> {
@@ -61,7 +55,7 @@ impl<'o> FrameTexts<'o> {
         ensures { IfOk result (λ texts. texts ≡ origins.now) }
     {
         let mut places = Vec::new(alloc);
-        places.resize(PLACES as usize, NO_TEXT)?;
+        places.resize(PLACES as usize, None)?;
         Ok(FrameTexts {
             origins,
             places,
@@ -71,79 +65,60 @@ impl<'o> FrameTexts<'o> {
 
     /// Keeps the text of an address in a place.
     fn keep(&mut self, place: usize, address: u64, text: &[u8]) -> Result<(), AllocError>
-        requires { text.now ≡ frame_text self.old false address }
+        requires { text.now ≡ frame_text self.old address }
         ensures { self.new ≡ self.old }
     {
         let start = self.texts.len();
         self.texts.extend_from_slice(text)?;
         let end = self.texts.len();
         if place < self.places.len() {
-            self.places[place] = KeptText {
+            self.places[place] = Some(KeptText {
                 address,
                 start,
                 end,
-            };
+            });
         }
         Ok(())
     }
 
-    /// Puts the text of a caller's frame last, and keeps it in a place.
-    fn put_new_caller(
+    /// Puts the text of a frame last, and keeps it in a place.
+    fn put_new_frame(
         &mut self,
         report: &mut Report,
         place: usize,
         address: u64,
     ) -> Result<(), AllocError>
-        ensures text { OnOk result
-            (report.new ≡ report.old ++ frame_text self.old false address) }
+        ensures text { OnOk result (report.new ≡ report.old ++ frame_text self.old address) }
         ensures files { self.new ≡ self.old }
     {
         let offset = report.bytes().len();
-        put_frame(report, self.origins, false, address)?;
+        put_frame(report, self.origins, address)?;
         self.keep(place, address, &report.bytes()[offset..])
     }
 
-    /// Puts the text of a caller's frame last.
-    fn put_caller(&mut self, report: &mut Report, address: u64) -> Result<(), AllocError>
-        ensures text { OnOk result
-            (report.new ≡ report.old ++ frame_text self.old false address) }
+    /// Puts the text of a frame last.
+    fn put_known_frame(&mut self, report: &mut Report, address: u64) -> Result<(), AllocError>
+        ensures text { OnOk result (report.new ≡ report.old ++ frame_text self.old address) }
         ensures files { self.new ≡ self.old }
     {
-        let place = (address % PLACES) as usize;
+        let place = (address / 16 % PLACES) as usize;
         match self.places.get(place) {
-            Some(kept) if kept.address == address => {
+            Some(Some(kept)) if kept.address == address => {
                 report.put_bytes(&self.texts[kept.start..kept.end])
             }
-            _ => self.put_new_caller(report, place, address),
+            _ => self.put_new_frame(report, place, address),
         }
     }
 
-    /// Puts the texts of callers' frames last, the outermost first.
-    fn put_callers(&mut self, report: &mut Report, returns: &[u64]) -> Result<(), AllocError>
-        ensures text { OnOk result
-            (report.new ≡ report.old ++ frames_text self.old false returns.now) }
+    /// Puts the texts of frames last, the outermost first.
+    fn put_frames(&mut self, report: &mut Report, addresses: &[u64]) -> Result<(), AllocError>
+        ensures text { OnOk result (report.new ≡ report.old ++ frames_text self.old addresses.now) }
         ensures files { self.new ≡ self.old }
     {
-        for i in (0..returns.len()).rev() {
-            self.put_caller(report, returns[i])?;
+        for i in (0..addresses.len()).rev() {
+            self.put_known_frame(report, addresses[i])?;
         }
         Ok(())
-    }
-
-    /// Puts the texts of frames last, the outermost first. At the innermost one the thread was
-    /// interrupted.
-    fn put_frames(&mut self, report: &mut Report, returns: &[u64]) -> Result<(), AllocError>
-        ensures text { OnOk result
-            (report.new ≡ report.old ++ frames_text self.old true returns.now) }
-        ensures files { self.new ≡ self.old }
-    {
-        match returns {
-            [innermost, callers @ ..] => {
-                self.put_callers(report, callers)?;
-                put_frame(report, self.origins, true, *innermost)
-            }
-            [] => Ok(()),
-        }
     }
 
     /// Puts the text of a stack last.
@@ -163,7 +138,7 @@ impl<'o> FrameTexts<'o> {
     {
         put_root(report, stack.name())?;
         put_end(report, stack.end())?;
-        self.put_frames(report, stack.returns())?;
+        self.put_frames(report, stack.places())?;
         put_popped(report, stack.popped())
     }
 }

@@ -1,11 +1,11 @@
 //! The stacks of a profile: each sample of a perf.data file is walked over the tables of its process
-//! and the copy of its thread's stack, and each distinct stack is told once, with the number of the
-//! samples that show it. Or the samples are told one after another, in the text form of `perf script`.
+//! and the copy of its thread's stack, and each distinct stack of functions is told once, with the
+//! number of the samples that show it. Or the samples are told one after another, in the text form of
+//! `perf script`.
 //!
 //! Nothing of the tables is copied for a sample, and in a profile no memory is taken for one whose
-//! stack was seen before. Most texts of callers' frames are written once; that of the innermost frame
-//! is written for each distinct stack. A stack that goes on where nothing is known, as after the end
-//! of the copy, is written as far as it is known, and why there is no more.
+//! stack was shown before. Most texts of frames are written once. A stack that goes on where nothing is
+//! known, as after the end of the copy, is written as far as it is known, and why there is no more.
 #![tactic(auto)]
 
 mod counts;

@@ -1,18 +1,20 @@
 // The lines of a sample.
-ghost use Rattle.std.specs.Prelude.{◌≡◌, ◌≤◌, ◌==◌, ◌++◌, ◌∷◌, OnOk, [], true, take};
+ghost use Rattle.std.specs.Prelude.{◌≡◌, ◌≤◌, ◌==◌, ◌++◌, ◌∷◌, IfOk, List, OnOk, [], true, ℕ};
 ghost use Rattle.std.specs.Option.{option_map};
 ghost use Rattle.perf_data.specs.Views.{sample_value};
 ghost use Rattle.sampled_profile.specs.Ends.{end_word, popped_word, returns_of};
-ghost use Rattle.sampled_profile.specs.Scripts.{decimals, frame_line, frame_lines, mark_line};
+ghost use Rattle.sampled_profile.specs.Frames.{addresses_of};
+ghost use Rattle.sampled_profile.specs.Scripts.{decimals, frame_lines, mark_line};
 ghost use Rattle.sampled_profile.specs.Scripts.{head_line, place_line, placed_text, sample_lines};
 ghost use Rattle.sampled_profile.specs.Scripts.{seconds_text, thread_text, time_text, word_line};
 ghost use Rattle.sampled_profile.specs.Walks.{walk_of};
 
 use crate::stack_end::popped_word;
+use crate::stack_table::is_signal;
 use crate::texts::{address_inside, put_name, put_place, put_root};
 use crate::walks::walk_sample;
 use perf_data::{Sample, Thread};
-use stack_deliver::{Room, Space};
+use stack_deliver::{FrameCache, Room};
 use stack_report::Report;
 use stack_snapshot::{Origin, Origins};
 use std::alloc::AllocError;
@@ -99,31 +101,44 @@ fn put_place_line(report: &mut Report, origins: &Origins, address: u64) -> Resul
     report.end_line()
 }
 
-/// Puts the line of a frame last.
-#[tactic(auto, unfolding(crate::specs::Scripts::frame_line))]
+/// Puts the line of the frame at a return address last, unless that is 0, and answers whether its caller
+/// was interrupted where it stands.
 fn put_frame_line(
     report: &mut Report,
+    cache: &mut FrameCache<'_, '_>,
     origins: &Origins,
     interrupted: bool,
     address: u64,
-) -> Result<(), AllocError>
-    ensures { OnOk result (report.new ≡ report.old ++
-        frame_line origins.now interrupted address) }
+) -> Result<bool, AllocError>
+    ensures lines { IfOk result (λ signal. (outer : List ℕ) → report.new ++
+        frame_lines origins.now (addresses_of cache.old signal outer) ≡ report.old ++
+        frame_lines origins.now (addresses_of cache.old interrupted (address ∷ outer))) }
+    ensures same { cache.new ≡ cache.old }
 {
     if address == 0 {
-        return Ok(());
+        return Ok(false);
     }
-    put_place_line(report, origins, address_inside(address, interrupted))
+    let asked = address_inside(address, interrupted);
+    put_place_line(report, origins, asked)?;
+    Ok(is_signal(cache.described_function(asked)))
 }
 
-/// Puts the lines of the states in a room last, the innermost first.
-fn put_frame_lines(report: &mut Report, origins: &Origins, room: &Room) -> Result<(), AllocError>
-    ensures { OnOk result (report.new ≡ report.old ++
-        frame_lines origins.now true (returns_of room.now.visited)) }
+/// Puts the lines of the states in a room last, the innermost first. At the first of them the thread was
+/// interrupted.
+fn put_frame_lines(
+    report: &mut Report,
+    cache: &mut FrameCache<'_, '_>,
+    origins: &Origins,
+    room: &Room,
+) -> Result<(), AllocError>
+    ensures lines { OnOk result (report.new ≡ report.old ++
+        frame_lines origins.now (addresses_of cache.old true (returns_of room.now.visited))) }
+    ensures same { cache.new ≡ cache.old }
 {
+    let mut interrupted = true;
     for i in 0..room.visited_len() {
         let state = room.visited(i).unwrap();
-        put_frame_line(report, origins, i == 0, state.ra)?;
+        interrupted = put_frame_line(report, cache, origins, interrupted, state.ra)?;
     }
     Ok(())
 }
@@ -157,7 +172,7 @@ fn put_mark_line(report: &mut Report, word: Option<&'static str>) -> Result<(), 
 #[tactic(auto, unfolding(crate::specs::Scripts::sample_lines))]
 pub(crate) fn put_sample_lines(
     report: &mut Report,
-    space: &Space<'_>,
+    cache: &mut FrameCache<'_, '_>,
     origins: &Origins,
     limit: u32,
     name: Option<&[u8]>,
@@ -165,15 +180,16 @@ pub(crate) fn put_sample_lines(
     room: &mut Room,
 ) -> Result<(), AllocError>
     requires { limit ≤ room.old.limit }
-    ensures text { OnOk result (report.new ≡ report.old ++ sample_lines origins.now
+    ensures text { OnOk result (report.new ≡ report.old ++ sample_lines cache.old origins.now
         (option_map (λ n. n.now) name.entry) (sample_value sample.now)
-        (walk_of space.now limit (sample_value sample.now))) }
+        (walk_of cache.old limit (sample_value sample.now))) }
     ensures places { room.new.limit ≡ room.old.limit }
+    ensures same { cache.new ≡ cache.old }
 {
     put_head(report, name, sample)?;
-    let marks = walk_sample(space, limit, sample, room);
+    let marks = walk_sample(cache, limit, sample, room);
     put_mark_line(report, popped_word(marks.popped))?;
-    put_frame_lines(report, origins, room)?;
+    put_frame_lines(report, cache, origins, room)?;
     put_mark_line(report, marks.end.word())?;
     report.end_line()
 }

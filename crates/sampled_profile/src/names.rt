@@ -4,7 +4,7 @@ ghost use Rattle.std.specs.Option.{option_map};
 ghost use Rattle.perf_data.specs.Records.{RecordValue, Named, Forked};
 ghost use Rattle.perf_data.specs.Views.{name_value, record_value, sample_value};
 ghost use Rattle.sampled_profile.specs.Kept.{Knows, name_kept, own_kept, parent_kept};
-ghost use Rattle.sampled_profile.specs.Names.{name_in, name_of};
+ghost use Rattle.sampled_profile.specs.Names.{name_in, name_of, process_name_of};
 
 use perf_data::{Comm, Record, Sample, Task};
 use std::alloc::{AllocError, Global};
@@ -113,6 +113,22 @@ pub(crate) fn name_of<'n>(names: &'n ThreadNames, sample: &Sample<'_>) -> Option
 {
     match sample.thread {
         Some(thread) => names.name(thread.tid),
+        None => None,
+    }
+}
+
+/// The name of the process of a sample's thread: that of the thread which has the process's number or,
+/// where no record tells that, the thread's own.
+pub(crate) fn process_name_of<'n>(names: &'n ThreadNames, sample: &Sample<'_>) -> Option<&'n [u8]>
+    ensures { (earlier : List RecordValue) → Knows names.now earlier →
+        option_map (λ name. name.now) result ≡
+        process_name_of earlier (sample_value sample.now).thread }
+{
+    match sample.thread {
+        Some(thread) => match names.name(thread.pid) {
+            Some(name) => Some(name),
+            None => names.name(thread.tid),
+        },
         None => None,
     }
 }

@@ -10,21 +10,22 @@ ghost use Rattle.perf_data.specs.Samples.{SampleValue};
 ghost use Rattle.folded_stacks.specs.Counts.{HasStack, IsFolded};
 ghost use Rattle.sampled_profile.specs.Kept.{Counts, IsTally, Knows};
 ghost use Rattle.sampled_profile.specs.KnownSamples.{BeginsKnownStack, HasSample, known_text};
-ghost use Rattle.sampled_profile.specs.Names.{name_of};
+ghost use Rattle.sampled_profile.specs.Frames.{frames_of};
+ghost use Rattle.sampled_profile.specs.Names.{process_name_of};
 ghost use Rattle.sampled_profile.specs.Profiles.{profile_of, profile_text, read_all, stacks_of};
 ghost use Rattle.sampled_profile.specs.Profiles.{tables};
-ghost use Rattle.sampled_profile.specs.Tables.{CountsOneMore, shown_name, shown_walk, total_of};
+ghost use Rattle.sampled_profile.specs.Tables.{CountsOneMore, shown_frames, shown_name, total_of};
 ghost use Rattle.sampled_profile.specs.Told.{Gives};
 ghost use Rattle.sampled_profile.specs.Walks.{walk_of};
 
 use crate::counts::StackCounts;
-use crate::names::{ThreadNames, name_of};
+use crate::names::{ThreadNames, process_name_of};
 use crate::records::next_record;
 use crate::stack_table::{SampledStack, StackTable};
 use crate::text_counts::counts_by_text;
 use crate::walks::walk_sample;
 use perf_data::{PerfError, PerfFile, Record, Records, Sample};
-use stack_deliver::{Room, Space};
+use stack_deliver::{FrameCache, Room, Space};
 use stack_report::Report;
 use stack_snapshot::Origins;
 use std::alloc::{AllocError, Global};
@@ -107,7 +108,7 @@ pub(crate) fn empty_tally(alloc: Global, limit: u32) -> Result<Tally, AllocError
 
 /// Counts the stack of a sample.
 fn count_sample(
-    space: &Space<'_>,
+    cache: &mut FrameCache<'_, '_>,
     limit: u32,
     sample: &Sample<'_>,
     tally: &mut Tally,
@@ -115,35 +116,37 @@ fn count_sample(
     requires places { limit ≤ tally.old.room.limit }
     requires few { total_of tally.old.stacks.counts.entries + 1 < 2 ^ 64 }
     ensures name { OnOk result ((earlier : List RecordValue) → Knows tally.old.names earlier →
-        shown_name tally.new.last ≡ name_of earlier (sample_value sample.now).thread) }
-    ensures walk { OnOk result
-        (shown_walk tally.new.last ≡ walk_of space.now limit (sample_value sample.now)) }
+        shown_name tally.new.last ≡ process_name_of earlier (sample_value sample.now).thread) }
+    ensures frames { OnOk result (shown_frames tally.new.last ≡
+        frames_of cache.old (walk_of cache.old limit (sample_value sample.now))) }
     ensures counted { OnOk result (CountsOneMore tally.new.last tally.old.stacks.counts.entries
         tally.new.stacks.counts.entries) }
     ensures names { tally.new.names ≡ tally.old.names }
     ensures places { tally.new.room.limit ≡ tally.old.room.limit }
+    ensures same { cache.new ≡ cache.old }
 {
-    let name = name_of(&tally.names, sample);
-    let marks = walk_sample(space, limit, sample, &mut tally.room);
-    tally.last.set(name, marks, &tally.room)?;
+    let name = process_name_of(&tally.names, sample);
+    let marks = walk_sample(cache, limit, sample, &mut tally.room);
+    tally.last.set(name, marks, cache, &tally.room)?;
     tally.stacks.count(&tally.last)
 }
 
 /// Takes what a record says.
 pub(crate) fn note_record(
-    space: &Space<'_>,
+    cache: &mut FrameCache<'_, '_>,
     limit: u32,
     entry: &Record<'_>,
     tally: &mut Tally,
 ) -> Result<(), AllocError>
     requires places { tally.old.room.limit ≡ limit }
     requires few { total_of tally.old.stacks.counts.entries + 1 < 2 ^ 64 }
-    ensures { OnOk result ((origins : List OriginValue) (earlier : List RecordValue) →
-        IsTally (tables space.now origins limit) tally.old earlier →
-        IsTally (tables space.now origins limit) tally.new (record_value entry.now ∷ earlier)) }
+    ensures noted { OnOk result ((origins : List OriginValue) (earlier : List RecordValue) →
+        IsTally (tables cache.old origins limit) tally.old earlier →
+        IsTally (tables cache.old origins limit) tally.new (record_value entry.now ∷ earlier)) }
+    ensures same { cache.new ≡ cache.old }
 {
     match entry {
-        Record::Sample(sample) => count_sample(space, limit, sample, tally),
+        Record::Sample(sample) => count_sample(cache, limit, sample, tally),
         _ => tally.names.note(entry),
     }
 }
@@ -159,10 +162,11 @@ fn tally_records(
     ensures { Counts result (λ origins. tables space.now origins limit)
         (records_left records.entry) }
 {
+    let mut cache = FrameCache::new(alloc, space)?;
     let mut tally = empty_tally(alloc, limit)?;
     let mut records = records;
     while let Some(entry) = next_record(&mut records)? {
-        note_record(space, limit, &entry, &mut tally)?;
+        note_record(&mut cache, limit, &entry, &mut tally)?;
     }
     Ok(tally.stacks)
 }
@@ -171,10 +175,13 @@ fn tally_records(
 /// texts, with the number of the samples that show it.
 ///
 /// A sample is walked over the modules of the space from its registers on, over the space's memory
-/// and the copy of its stack, at most `limit` states. Its text has the name of its thread, which the
-/// records before it tell, then why it is told no further, and its frames, the outermost first, by
-/// the files of `origins`. The space answers the same whether it is prepared or not, and much sooner
-/// where it is. Nothing is allocated for a sample whose stack was walked before.
+/// and the copy of its stack, at most `limit` states. Its text has the name of its process, which the
+/// records before it tell, then why it is told no further, and its frames, the outermost first. A frame
+/// is where its function begins, by the files of `origins`, so that samples of the same functions show
+/// one stack where their processes' names, ends and marks are the same, too; where no frame table of an
+/// ELF module describes the address asked, it is that address. The space answers
+/// the same whether it is prepared or not, and much sooner where it is. Nothing is allocated for a
+/// sample whose stack was shown before.
 ///
 /// # Errors
 ///
@@ -200,7 +207,7 @@ pub fn profile_of(
         length (stacks_of (tables space.now origins.now limit) read)) }
     // The line of a sample whose thread's stack is known, of each of whose frames it is known how its
     // caller's state follows, in an ELF module by facts that its tables say, at any address, has the
-    // frames of the stack.
+    // stack's frames, by their functions where these are described.
     ensures known { IfOk result (λ profile. (read earlier : List RecordValue)
         (sample : SampleValue) (s : State) (callers : List State) →
         read_all file.now.records ≡ Ok read → HasSample read sample earlier →

@@ -17,7 +17,7 @@ use crate::names::{ThreadNames, name_of};
 use crate::profile::ProfileError;
 use crate::records::next_record;
 use perf_data::{PerfFile, Record, Records, Sample};
-use stack_deliver::{Room, Space};
+use stack_deliver::{FrameCache, Room, Space};
 use stack_report::Report;
 use stack_snapshot::Origins;
 use std::alloc::{AllocError, Global};
@@ -44,7 +44,7 @@ pub(crate) fn empty_script(alloc: Global, limit: u32) -> Result<Script, AllocErr
 
 /// Puts the lines of a sample last.
 fn put_sample(
-    space: &Space<'_>,
+    cache: &mut FrameCache<'_, '_>,
     origins: &Origins,
     limit: u32,
     sample: &Sample<'_>,
@@ -52,33 +52,35 @@ fn put_sample(
 ) -> Result<(), AllocError>
     requires { limit ≤ script.old.room.limit }
     ensures text { OnOk result ((earlier : List RecordValue) → Knows script.old.names earlier →
-        script.new.text ≡ script.old.text ++ sample_lines origins.now
+        script.new.text ≡ script.old.text ++ sample_lines cache.old origins.now
         (name_of earlier (sample_value sample.now).thread) (sample_value sample.now)
-        (walk_of space.now limit (sample_value sample.now))) }
+        (walk_of cache.old limit (sample_value sample.now))) }
     ensures names { script.new.names ≡ script.old.names }
     ensures places { script.new.room.limit ≡ script.old.room.limit }
+    ensures same { cache.new ≡ cache.old }
 {
     let name = name_of(&script.names, sample);
     let room = &mut script.room;
-    put_sample_lines(&mut script.text, space, origins, limit, name, sample, room)
+    put_sample_lines(&mut script.text, cache, origins, limit, name, sample, room)
 }
 
 /// Takes what a record says.
 pub(crate) fn note_record(
-    space: &Space<'_>,
+    cache: &mut FrameCache<'_, '_>,
     origins: &Origins,
     limit: u32,
     entry: &Record<'_>,
     script: &mut Script,
 ) -> Result<(), AllocError>
     requires { script.old.room.limit ≡ limit }
-    ensures { OnOk result ((earlier : List RecordValue) →
-        IsScript (tables space.now origins.now limit) script.old earlier →
-        IsScript (tables space.now origins.now limit) script.new
+    ensures noted { OnOk result ((earlier : List RecordValue) →
+        IsScript (tables cache.old origins.now limit) script.old earlier →
+        IsScript (tables cache.old origins.now limit) script.new
         (record_value entry.now ∷ earlier)) }
+    ensures same { cache.new ≡ cache.old }
 {
     match entry {
-        Record::Sample(sample) => put_sample(space, origins, limit, sample, script),
+        Record::Sample(sample) => put_sample(cache, origins, limit, sample, script),
         _ => script.names.note(entry),
     }
 }
@@ -94,10 +96,11 @@ fn script_records(
     ensures { Gives result
         (script_of (tables space.now origins.now limit) (records_left records.entry)) }
 {
+    let mut cache = FrameCache::new(alloc, space)?;
     let mut script = empty_script(alloc, limit)?;
     let mut records = records;
     while let Some(entry) = next_record(&mut records)? {
-        note_record(space, origins, limit, &entry, &mut script)?;
+        note_record(&mut cache, origins, limit, &entry, &mut script)?;
     }
     Ok(script.text)
 }
@@ -109,8 +112,9 @@ fn script_records(
 /// with its process and its number, and when it was taken; its frames, the innermost first, each with
 /// the address of its instruction, its place in the file of `origins` and the file's path; why there
 /// are no more, in brackets, unless the last frame is the outermost; and an empty line. Of a caller the
-/// address is the byte before its return address. A space or a semicolon in a name is written as `_`,
-/// and what isn't known as `[unknown]`.
+/// address is the byte before its return address, but for one that a signal interrupted, as an ELF
+/// module's frame table says: of that it is where it was interrupted. A space or a semicolon in a name
+/// is written as `_`, and what isn't known as `[unknown]`.
 ///
 /// # Errors
 ///

@@ -21,7 +21,7 @@ use crate::stack_table::StackTable;
 use crate::text_counts::counts_by_text;
 use memory_image::Source;
 use perf_data::{OpenFile, PerfError, PerfFile, RecordReader, StreamError};
-use stack_deliver::Space;
+use stack_deliver::{FrameCache, Space};
 use stack_report::Report;
 use stack_snapshot::Origins;
 use std::alloc::Global;
@@ -79,7 +79,7 @@ fn cause_of<I: Source>(reader: &mut RecordReader, input: &mut I, error: PerfErro
 
 /// Counts what the next record says: whether there is one.
 fn count_next<I: Source>(
-    space: &Space<'_>,
+    cache: &mut FrameCache<'_, '_>,
     limit: u32,
     reader: &mut RecordReader,
     input: &mut I,
@@ -91,8 +91,8 @@ fn count_next<I: Source>(
         TakesRecord r (due_left reader.old (I.left input.old))
         (due_left reader.new (I.left input.new)) ×
         ((origins : List OriginValue) (earlier : List RecordValue) →
-        IsTally (tables space.now origins limit) tally.old earlier →
-        IsTally (tables space.now origins limit) tally.new (r ∷ earlier))) }
+        IsTally (tables cache.old origins limit) tally.old earlier →
+        IsTally (tables cache.old origins limit) tally.new (r ∷ earlier))) }
     ensures fewer { IfOk result (λ more. IsTrue more → reader.new.size < reader.old.size) }
     ensures ended { IfOk result (λ more. IsFalse more →
         EndsAt [] (due_left reader.old (I.left input.old))
@@ -105,12 +105,13 @@ fn count_next<I: Source>(
         (I.faults input.new) }
     ensures fault { IsErrOf result StreamError.Fault →
         Rose (I.faults input.old) (I.faults input.new) }
+    ensures same { cache.new ≡ cache.old }
 {
     if !reader.advance(input)? {
         return Ok(false);
     }
     let (entry, size) = reader.record()?;
-    note_in_tally(space, limit, &entry, tally)?;
+    note_in_tally(cache, limit, &entry, tally)?;
     reader.pass(size);
     Ok(true)
 }
@@ -130,8 +131,9 @@ fn count_records<I: Source>(
     ensures fault { IsErrOf result StreamError.Fault →
         Rose (I.faults input.old) (I.faults input.new) }
 {
+    let mut cache = FrameCache::new(alloc, space)?;
     let mut tally = empty_tally(alloc, limit)?;
-    while count_next(space, limit, reader, input, &mut tally)? {}
+    while count_next(&mut cache, limit, reader, input, &mut tally)? {}
     Ok(tally.stacks)
 }
 
@@ -235,7 +237,7 @@ pub fn profile_of_source<I: Source>(
 
 /// Puts the lines of what the next record says last: whether there is one.
 fn put_next<I: Source>(
-    space: &Space<'_>,
+    cache: &mut FrameCache<'_, '_>,
     origins: &Origins,
     limit: u32,
     reader: &mut RecordReader,
@@ -247,8 +249,8 @@ fn put_next<I: Source>(
         TakesRecord r (due_left reader.old (I.left input.old))
         (due_left reader.new (I.left input.new)) ×
         ((earlier : List RecordValue) →
-        IsScript (tables space.now origins.now limit) script.old earlier →
-        IsScript (tables space.now origins.now limit) script.new (r ∷ earlier))) }
+        IsScript (tables cache.old origins.now limit) script.old earlier →
+        IsScript (tables cache.old origins.now limit) script.new (r ∷ earlier))) }
     ensures fewer { IfOk result (λ more. IsTrue more → reader.new.size < reader.old.size) }
     ensures ended { IfOk result (λ more. IsFalse more →
         EndsAt [] (due_left reader.old (I.left input.old))
@@ -261,12 +263,13 @@ fn put_next<I: Source>(
         (I.faults input.new) }
     ensures fault { IsErrOf result StreamError.Fault →
         Rose (I.faults input.old) (I.faults input.new) }
+    ensures same { cache.new ≡ cache.old }
 {
     if !reader.advance(input)? {
         return Ok(false);
     }
     let (entry, size) = reader.record()?;
-    note_in_script(space, origins, limit, &entry, script)?;
+    note_in_script(cache, origins, limit, &entry, script)?;
     reader.pass(size);
     Ok(true)
 }
@@ -287,8 +290,9 @@ fn put_records<I: Source>(
     ensures fault { IsErrOf result StreamError.Fault →
         Rose (I.faults input.old) (I.faults input.new) }
 {
+    let mut cache = FrameCache::new(alloc, space)?;
     let mut script = empty_script(alloc, limit)?;
-    while put_next(space, origins, limit, reader, input, &mut script)? {}
+    while put_next(&mut cache, origins, limit, reader, input, &mut script)? {}
     Ok(script.text)
 }
 

@@ -55,7 +55,7 @@ pub(crate) fn put_name(report: &mut Report, name: &[u8]) -> Result<(), AllocErro
     }
 }
 
-/// Puts the name of a thread last.
+/// Puts the name of a thread or of a process last.
 pub(crate) fn put_root(report: &mut Report, name: Option<&[u8]>) -> Result<(), AllocError>
     ensures { OnOk result (report.new ≡ report.old ++ root_text (option_map (λ n. n.now) name.entry)) }
 {
@@ -95,26 +95,17 @@ pub(crate) fn address_inside(address: u64, interrupted: bool) -> u64
     }
 }
 
-/// Puts a frame last, with a semicolon before it. Nothing of the address 0.
+/// Puts a frame last, with a semicolon before it.
 #[tactic(auto, unfolding(crate::specs::Texts::frame_text))]
 pub(crate) fn put_frame(
     report: &mut Report,
     origins: &Origins,
-    interrupted: bool,
-    address: u64,
+    place: u64,
 ) -> Result<(), AllocError>
-    ensures { OnOk result (report.new ≡ report.old ++
-        frame_text origins.now interrupted address) }
+    ensures { OnOk result (report.new ≡ report.old ++ frame_text origins.now place) }
 {
-    if address == 0 {
-        return Ok(());
-    }
     report.put(";")?;
-    put_place(
-        report,
-        origins.at(address_inside(address, interrupted)),
-        address,
-    )
+    put_place(report, origins.at(place), place)
 }
 
 /// Puts a word last, with a semicolon before it, where there is one.

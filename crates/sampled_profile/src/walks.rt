@@ -8,9 +8,8 @@ ghost use Rattle.sampled_profile.specs.Walks.{sample_space, start_of, walk_from,
 use crate::stack_end::StackEnd;
 use memory_image::MemoryImage;
 use perf_data::{Sample, UserRegisters};
-use popped_registers::walk_interrupted;
-use stack_deliver::DeliverError;
-use stack_steps::Space;
+use popped_registers::walk_interrupted_cached;
+use stack_deliver::{DeliverError, FrameCache, Space};
 use stack_walks::{EndReason, Room};
 use unwind_arch::x86_64::{Context, RSP};
 
@@ -43,10 +42,10 @@ fn end_told(why: EndReason) -> StackEnd
     }
 }
 
-/// Walks over the modules of a space and an image, from where a thread was interrupted. Registers
-/// that were popped there are kept.
-fn walk_from<'s, 't>(
-    space: &'s Space<'t>,
+/// Walks over the modules of a cache's space and an image, from where a thread was interrupted.
+/// Registers that were popped there are kept.
+fn walk_from<'s, 'c, 't>(
+    cache: &mut FrameCache<'c, 't>,
     image: &'s MemoryImage<'s>,
     start: &Context,
     limit: u32,
@@ -54,24 +53,26 @@ fn walk_from<'s, 't>(
 ) -> WalkMarks
 where
     't: 's,
+    'c: 's,
     requires within { limit ≤ room.old.limit }
-    requires grows { Grows space.now.image image.now }
+    requires grows { Grows cache.old.image image.now }
     ensures walk { marked_walk room.new.visited result ≡
-        walk_from (over_image space.now image.now) limit start.now }
+        walk_from (over_image cache.old image.now) limit start.now }
+    ensures same { cache.new ≡ cache.old }
     ensures places { room.new.limit ≡ room.old.limit }
 {
-    let walk = walk_interrupted(space, image, start, limit, room);
+    let walk = walk_interrupted_cached(cache, image, start, limit, room);
     WalkMarks {
         end: end_told(walk.why),
         popped: walk.popped,
     }
 }
 
-/// Walks over the modules of a space from where a thread was interrupted, over the space's memory and
-/// a copy of the thread's stack, whose first byte lies at its stack pointer. A copy that the space's
-/// memory leaves no place for isn't looked at. The states stand in the room.
-fn walk_thread<'s, 't>(
-    space: &'s Space<'t>,
+/// Walks over the modules of a cache's space from where a thread was interrupted, over the space's
+/// memory and a copy of the thread's stack, whose first byte lies at its stack pointer. A copy that the
+/// space's memory leaves no place for isn't looked at. The states stand in the room.
+fn walk_thread<'s, 'c, 't>(
+    cache: &mut FrameCache<'c, 't>,
     start: &Context,
     stack: &'s [u8],
     limit: u32,
@@ -79,15 +80,18 @@ fn walk_thread<'s, 't>(
 ) -> WalkMarks
 where
     't: 's,
+    'c: 's,
     requires { limit ≤ room.old.limit }
     ensures walk { marked_walk room.new.visited result ≡
-        walk_from (sample_space space.now start.now stack.now) limit start.now }
+        walk_from (sample_space cache.old start.now stack.now) limit start.now }
+    ensures same { cache.new ≡ cache.old }
     ensures places { room.new.limit ≡ room.old.limit }
 {
+    let space: &'s Space<'t> = cache.space();
     let image: &'s MemoryImage<'s> = space.image();
     match MemoryImage::over(image, start.registers[RSP], stack) {
-        Ok(grown) => walk_from(space, &grown, start, limit, room),
-        Err(_) => walk_from(space, image, start, limit, room),
+        Ok(grown) => walk_from(cache, &grown, start, limit, room),
+        Err(_) => walk_from(cache, image, start, limit, room),
     }
 }
 
@@ -102,21 +106,23 @@ fn start_of(registers: Option<UserRegisters<'_>>) -> Result<Context, StackEnd>
     }
 }
 
-/// Walks a sample over the modules of a space, over the space's memory and the sample's copy of its
-/// stack. The states stand in the room, and none where the sample tells no start.
+/// Walks a sample over the modules of a cache's space, over the space's memory and the sample's copy of
+/// its stack, by the rows that the cache keeps. The states stand in the room, and none where the sample
+/// tells no start.
 pub(crate) fn walk_sample(
-    space: &Space<'_>,
+    cache: &mut FrameCache<'_, '_>,
     limit: u32,
     sample: &Sample<'_>,
     room: &mut Room,
 ) -> WalkMarks
     requires { limit ≤ room.old.limit }
     ensures walk { marked_walk room.new.visited result ≡
-        walk_of space.now limit (sample_value sample.now) }
+        walk_of cache.old limit (sample_value sample.now) }
+    ensures same { cache.new ≡ cache.old }
     ensures places { room.new.limit ≡ room.old.limit }
 {
     match start_of(sample.registers) {
-        Ok(start) => walk_thread(space, &start, sample.stack, limit, room),
+        Ok(start) => walk_thread(cache, &start, sample.stack, limit, room),
         Err(end) => {
             room.clear();
             WalkMarks { end, popped: false }

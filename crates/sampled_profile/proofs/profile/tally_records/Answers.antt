@@ -1,11 +1,11 @@
 use Rattle.std.proofs.Common.{◌≡◌, ◌≤◌, suc, [], ◌∷◌, Ok, refl, sym, ap, ◌∙◌, arith, length}
 use Rattle.perf_data.specs.Views.{record_value, records_left}
 use Rattle.sampled_profile.specs.Profiles.{read_after, read_all, tables}
-use Rattle.sampled_profile.proofs.ProfileLemmas.{counts_few, next_end, next_step, read_on, some_left, table_counted}
+use Rattle.sampled_profile.proofs.ProfileLemmas.{counts_few, next_end, next_step, noted_over, read_on, some_left, table_counted}
 use Rattle.sampled_profile.proofs.profile.tally_records.Goals as goal
 
 pub loop-tally-init : goal.loop-tally-init
-loop-tally-init c = ([], refl, c.in_ok-tally.ensures c.args.space.now, omega arith)
+loop-tally-init c = ([], refl, c.in_ok-tally.ensures c.args.space.now, omega arith, c.in_ok-cache.ensures)
 
 pub note_record-requires-clause-places : goal.note_record-requires-clause-places
 note_record-requires-clause-places c = (c.loop-tally.invariant.2 []).places
@@ -29,7 +29,8 @@ loop-tally-preserved c =
     let step = next_step left rest c.in_ok-entry.field-0 c.in-Some.entry c.in_ok-entry.ensures c.in-Some.is in
     let long = was.3 in
     let one : length left ≡ suc (length rest) = ap length step in
-    (r ∷ was.0, read_on all left rest was.0 r step was.1, λ origins. c.in_ok-note_record.ensures origins was.0 (was.2 origins), omega arith)
+    let noted = noted_over c.args.limit c.loop-tally.tally c.note_record.new.tally was.0 r c.loop-tally.cache c.args.space.now was.4 c.in_ok-note_record.ensures.noted in
+    (r ∷ was.0, read_on all left rest was.0 r step was.1, λ origins. noted origins (was.2 origins), omega arith, c.note_record.ensures.same ∙ was.4)
 
 pub returns : goal.returns
 returns c =

@@ -6,7 +6,7 @@ use Rattle.sampled_profile.proofs.ScriptLemmas.{failed_script, script_done}
 use Rattle.sampled_profile.proofs.script.script_records.Goals as goal
 
 pub loop-script-init : goal.loop-script-init
-loop-script-init c = ([], refl, c.in_ok-script.ensures c.args.space.now c.args.origins.now)
+loop-script-init c = ([], refl, c.in_ok-script.ensures c.args.space.now c.args.origins.now, c.in_ok-cache.ensures)
 
 pub returns-in_err-entry : goal.returns-in_err-entry
 returns-in_err-entry c =

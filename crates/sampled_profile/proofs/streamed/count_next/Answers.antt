@@ -24,5 +24,5 @@ returns-clause-taken g c = λ more.
       r,
       takes_of r (due_left c.args.reader.now left) (due_left c.pass.new.self later)
           (step_taken c.args.reader.now c.advance.new.self c.pass.new.self left later r c.in_ok-entry.size c.advance.ensures.place c.in_ok-advance.ensures.kept c.in_ok-entry.ensures.value c.in_ok-entry.ensures.within c.pass.ensures.layout c.pass.ensures.offset c.pass.ensures.size c.pass.ensures.held),
-      λ origins earlier. c.in_ok-note_record.ensures origins earlier,
+      λ origins earlier. c.in_ok-note_record.ensures.noted origins earlier,
     )

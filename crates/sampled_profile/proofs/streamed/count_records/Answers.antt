@@ -1,17 +1,18 @@
-use Rattle.std.proofs.Common.{◌≡◌, ◌∷◌, [], Ok, refl, sym, subst, List, arith}
+use Rattle.std.proofs.Common.{◌≡◌, ◌∷◌, [], Ok, refl, sym, subst, ◌∙◌, List, arith}
 use Rattle.perf_data.specs.Streams.{due_left}
 use Rattle.perf_data.proofs.StreamLemmas.{on_again, on_nothing}
 use Rattle.stack_snapshot.specs.Origins.{OriginValue}
 use Rattle.sampled_profile.specs.declared.profile.Tally.{Tally}
 use Rattle.sampled_profile.specs.Kept.{IsCounted}
 use Rattle.sampled_profile.specs.Profiles.{tables}
-use Rattle.sampled_profile.proofs.ProfileLemmas.{counts_few, table_counted}
+use Rattle.sampled_profile.proofs.ProfileLemmas.{counts_few, noted_over, table_counted}
 use Rattle.sampled_profile.proofs.StreamedLemmas.{counts_failed, leads_to, reads_nothing, reads_one}
 use Rattle.sampled_profile.proofs.streamed.count_records.Goals as goal
 
 pub loop-tally-init : goal.loop-tally-init
 loop-tally-init g c = record {
   told = ([], reads_nothing (due_left c.args.reader.now (g.I.Source.left c.args.input.now)), c.in_ok-tally.ensures c.args.space.now, omega arith);
+  same = c.in_ok-cache.ensures;
   on = on_nothing (g.I.Source.left c.args.input.now) (g.I.Source.faults c.args.input.now);
 }
 
@@ -43,9 +44,10 @@ loop-tally-preserved g c =
       told = (
         taken.0 ∷ was.0,
         reads_one was.0 taken.0 (due_left c.args.reader.now (g.I.Source.left c.args.input.now)) (due_left c.loop-tally.reader (g.I.Source.left c.loop-tally.input)) (due_left c.count_next.new.reader (g.I.Source.left c.count_next.new.input)) was.1 taken.1,
-        λ origins. taken.2 origins was.0 (was.2 origins),
+        λ origins. noted_over c.args.limit c.loop-tally.tally c.count_next.new.tally was.0 taken.0 c.loop-tally.cache c.args.space.now c.loop-tally.invariant.same taken.2 origins (was.2 origins),
         omega arith,
       );
+      same = c.count_next.ensures.same ∙ c.loop-tally.invariant.same;
       on = on_again _ _ _ _ _ _ c.loop-tally.invariant.on c.count_next.ensures.on;
     }
 

@@ -3,12 +3,14 @@ use Rattle.perf_data.specs.Streams.{due_left}
 use Rattle.perf_data.proofs.StreamLemmas.{on_again, on_nothing}
 use Rattle.sampled_profile.specs.declared.script.Script.{Script}
 use Rattle.sampled_profile.specs.Profiles.{tables}
+use Rattle.sampled_profile.proofs.ScriptLemmas.{script_over}
 use Rattle.sampled_profile.proofs.StreamedLemmas.{leads_to, reads_nothing, reads_one, script_stopped}
 use Rattle.sampled_profile.proofs.streamed.put_records.Goals as goal
 
 pub loop-script-init : goal.loop-script-init
 loop-script-init g c = record {
   told = ([], reads_nothing (due_left c.args.reader.now (g.I.Source.left c.args.input.now)), c.in_ok-script.ensures c.args.space.now c.args.origins.now, omega arith);
+  same = c.in_ok-cache.ensures;
   on = on_nothing (g.I.Source.left c.args.input.now) (g.I.Source.faults c.args.input.now);
 }
 
@@ -31,9 +33,10 @@ loop-script-preserved g c =
       told = (
         taken.0 ∷ was.0,
         reads_one was.0 taken.0 (due_left c.args.reader.now (g.I.Source.left c.args.input.now)) (due_left c.loop-script.reader (g.I.Source.left c.loop-script.input)) (due_left c.put_next.new.reader (g.I.Source.left c.put_next.new.input)) was.1 taken.1,
-        taken.2 was.0 was.2,
+        script_over c.args.origins.now c.args.limit c.loop-script.script c.put_next.new.script was.0 taken.0 c.loop-script.cache c.args.space.now c.loop-script.invariant.same taken.2 was.2,
         omega arith,
       );
+      same = c.put_next.ensures.same ∙ c.loop-script.invariant.same;
       on = on_again _ _ _ _ _ _ c.loop-script.invariant.on c.put_next.ensures.on;
     }
 

@@ -7,8 +7,8 @@ use Rattle.sampled_profile.proofs.walks.walk_from.Goals as goal
 
 pub returns-clause-walk : goal.returns-clause-walk
 returns-clause-walk c =
-    let walk = c.walk_interrupted-walk in
-    let kept = kept_space (over_image c.args.space.now c.args.image.now) c.args.limit c.args.start.now in
+    let walk = c.walk_interrupted_cached-walk in
+    let kept = kept_space (over_image c.args.cache.now c.args.image.now) c.args.limit c.args.start.now in
     let end = c.end_told.ensures ∙ sym (comes_told kept walk.result.why c.args.limit c.args.start.now _ walk.ensures.why) in
     let states = walk.ensures.states in
     let popped = walk.ensures.popped in

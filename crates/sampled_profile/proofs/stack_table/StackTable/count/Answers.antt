@@ -28,11 +28,11 @@ returns c =
     let entries = c.args.self.now.counts.entries in
     let before = c.get_mut.follows.lender-at-none in
     let same : before ≡ c.args.self.now.counts = c.get_mut.follows.holds-at-none in
-    let copied = copy_same key stack c.in_ok-key.ensures.named c.in_ok-key.ensures.name c.in_ok-key.ensures.end c.in_ok-key.ensures.popped c.in_ok-key.ensures.returns in
+    let copied = copy_same key stack c.in_ok-key.ensures.named c.in_ok-key.ensures.name c.in_ok-key.ensures.end c.in_ok-key.ensures.popped c.in_ok-key.ensures.places in
     let none : c.in_ok-insert.field-0 ≡ None =
     c.in_ok-insert.ensures.old ∙ (ap (λ m. lookup (stacks.eq-value.it key) m.entries) same ∙ (lookup_same (stacks.eq-value.it key) (stacks.eq-value.it stack) entries copied ∙ sym c.in_default.ensures.value)) in
     let put : IsPermutation ((key, 1) ∷ before.entries) c.insert.new.self.entries =
     subst (λ o. MatchOption o (IsPermutation ((key, 1) ∷ before.entries) c.insert.new.self.entries) (λ _. c.insert.new.self.entries ≡ set_value (stacks.eq-value.it key) before.entries 1)) none c.in_ok-insert.ensures.entries in
     let moved = subst (λ m. IsPermutation ((key, 1) ∷ m.entries) c.insert.new.self.entries) same put in
     joined key stack entries c.insert.new.self.entries moved
-    (copy_text key stack c.in_ok-key.ensures.named c.in_ok-key.ensures.name c.in_ok-key.ensures.end c.in_ok-key.ensures.popped c.in_ok-key.ensures.returns)
+    (copy_text key stack c.in_ok-key.ensures.named c.in_ok-key.ensures.name c.in_ok-key.ensures.end c.in_ok-key.ensures.popped c.in_ok-key.ensures.places)
