@@ -37,7 +37,7 @@ pub fn a_known_stack_is_asked_for()
         (pushing.caller ∷ []) }
     ensures text { (is : BeginsKnownStack walked.space walked.limit known.sample_value
         pushing.start (pushing.caller ∷ [])) → known_text walked known.earlier known.sample_value
-        pushing.start (pushing.caller ∷ []) is ≡ codes "ab;a.out+0x1006" }
+        pushing.start (pushing.caller ∷ []) is ≡ codes "ab;a.out+0x1000" }
 {}
 
 /// A perf.data file of 344 bytes is asked for with the tables of a function that pushes RBX, at
@@ -49,7 +49,7 @@ pub fn a_popped_stack_is_asked_for()
     ensures asked_script { Asks Script (codes "--script" ∷ codes "tables.json" ∷ []) popped.file
         popped.bytes popped.walked popped.records }
     ensures stacks { stacks_of popped.walked popped.records ≡
-        codes "ab;a.out+0x1006;a.out+0x100f;[popped]" ∷ [] }
+        codes "ab;a.out+0x1000;a.out+0x1000;[popped]" ∷ [] }
     ensures script { script_text popped.walked popped.records ≡
         codes "ab 7/8 0.000000009: 1 samples:\n\t0x0 [popped] ([unknown])\n\t0x40100f a.out+0x100f (a.out)\n\t0x401005 a.out+0x1005 (a.out)\n\n" }
 {}

@@ -5,6 +5,9 @@ use Rattle.std.specs.Str.{is_utf8, chars}
 use Rattle.std.specs.Prelude.{codes}
 use Rattle.hex.specs.Hex.{decode_pairs}
 use Rattle.serde_json.proofs.OnLiterals.{serde_json_on_literals}
+use Rattle.unwind_definitions.specs.Entries.{entry_at}
+use Rattle.unwind_definitions.specs.Scan.{scan}
+use Rattle.stack_steps.specs.Functions.{described_function}
 use Rattle.stack_report.specs.Digits.{hexadecimal}
 use Rattle.stack_snapshot.specs.Answers.{value_of}
 use Rattle.stack_snapshot.specs.Origins.{origins_of}
@@ -49,5 +52,5 @@ pub returns-clause-begins : goal.returns-clause-begins
 returns-clause-begins c = known_sample_begins
 
 pub returns-clause-text : goal.returns-clause-text
-unfolding is_utf8 chars encode_utf8 serde_json_on_literals value_of origins_of digits hexadecimal name_in frame_text stack_text
+unfolding is_utf8 chars encode_utf8 serde_json_on_literals value_of origins_of digits hexadecimal scan entry_at described_function name_in frame_text stack_text
 returns-clause-text c = λ is. refl
