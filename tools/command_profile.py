@@ -4,11 +4,12 @@
     command_profile.py [--svg FILE] [--folded FILE] [--script FILE] [--frequency N] [--profile PROGRAM] COMMAND [WORD]...
 
 The picture goes to FILE (profile.svg), by flame_picture.py. With --folded the same stacks are written as flamegraph.pl, inferno
-and speedscope read them: the thread's name, why a stack ends early where it does, the functions from the outermost inwards, and
+and speedscope read them: the process's name, why a stack ends early where it does, the functions from the outermost inwards, and
 `[popped]` where registers were kept that were popped in the innermost one, with semicolons between them, a space and the number
-of samples. With --script the samples are written one after
-another in the text form of `perf script`, which Firefox Profiler reads, too: with their times, and the innermost frame first. The
-files are written when all is there, and else not at all. The command has its own standard streams; lines on standard error say how far the profile is.
+of samples. With --script the samples are written one after another in the text form of `perf script`, which Firefox Profiler
+reads, too: with their times, and the innermost frame first. There a function that was inlined has a frame of its own; in the
+picture and the stacks it doesn't. The files are written when all is there, and else not at all. The command has its own
+standard streams; lines on standard error say how far the profile is.
 
 perf takes N samples a second (499) of each thread that runs, with 8 KB of its stack. The processes that the command begins
 count, too: the samples of each program are walked over that program's tables, by the built program `profile`. It wants perf
@@ -45,8 +46,8 @@ STACK_BYTES = 8192
 
 
 class Line(NamedTuple):
-    """A line of `profile`: the thread's name and why the stack ends early, the addresses from the outermost inwards with the
-    number of samples, and what is said after the innermost one."""
+    """A line of `profile`: the process's name and why the stack ends early, where the functions of the frames begin, from the
+    outermost inwards, with the number of samples, and what is said after the innermost one."""
 
     heads: tuple[str, ...]
     stack: Stack
@@ -128,16 +129,17 @@ def lines_of(part: Part, tables: Object, program: str) -> list[Line]:
 
 
 def counts_of(tables: Object, lines: list[Line]) -> Counts:
-    """The samples of each stack of names."""
+    """The samples of each stack of names. A frame has the name of its function, or of the one that holds its address where no
+    frame table describes it."""
     frames = Frames(trampolines_of(tables))
     framed: list[tuple[Line, list[ReportedFrame]]] = []
     for line in lines:
-        framed.append((line, frames.of(line.stack, set(line.stack.addresses[-1:]))))
+        framed.append((line, [frames.frame(address, True) for address in line.stack.addresses]))
     names = Names(tables, {frame for _line, of_line in framed for frame in of_line}, [])
     counts = Counter[tuple[Name, ...]]()
     for line, of_line in framed:
         heads, marks = (tuple(Name(clean(part)) for part in parts) for parts in (line.heads, line.marks))
-        counts[(*heads, *(name for frame in of_line for name in names.of(frame)), *marks)] += line.stack.count
+        counts[(*heads, *(names.of(frame)[0] for frame in of_line), *marks)] += line.stack.count
     return dict(counts)
 
 

@@ -1,12 +1,13 @@
 #!/usr/bin/env python3
 """Whether `profile` gives the frames that `perf script` gives of the samples of perf.data files.
 
-    compare_profile.py [--show] PROFILE PERF.DATA ..
+    compare_profile.py [--show] [--all] PROFILE PERF.DATA ..
 
-PROFILE is the built program. Of each file the samples of the program with the most of them are compared one by one, by
-their threads and times: the name of the thread, and each frame's file and its place in it. A line says how many have the
-same, and how the others differ; with --show each of these is printed, too. perf prints a caller by the byte before its
-return address; frames of the kernel are left out.
+PROFILE is the built program. Of each file the samples of the program with the most of them, with --all those of every
+program, as perf_parts.py divides it, are compared one by one, by their threads and times: the name of the thread, and each
+frame's file and its place in it. A line says how many have the same, and how the others differ; with --show each of these is
+printed, too. perf prints a caller by the byte before its return address, but for one that a signal interrupted; frames of
+the kernel are left out.
 """
 from __future__ import annotations
 
@@ -168,23 +169,30 @@ def show(key: Key, kind: str, samples: tuple[Sample, Sample]) -> None:
         print("".join(f"    {name}+{place:#x}\n" for name, place in sample.frames), end="")
 
 
-def compare(program: str, path: str, is_shown: bool) -> None:
+def compared(part: Part, ours: dict[Key, Sample], theirs: dict[Key, Sample]) -> Iterator[tuple[Key, str]]:
+    """How the samples of a part differ, empty where they don't."""
+    places, words = Places(part.mappings), last_words(part.files[0])
+    for key, sample in ours.items():
+        is_last = bool(sample.frames) and key in words and sample.frames[-1] == places.of(words[key] - 1)
+        yield key, difference(sample, theirs[key], is_last) if key in theirs else "not in perf's text"
+
+
+def compare(program: str, path: str, is_shown: bool, is_all: bool) -> None:
     """Prints how many samples have the same frames, and how the others differ."""
     with open(path, "rb") as stream:
         content = stream.read()
-    part = parts_of(content)[0]
-    places, words = Places(part.mappings), last_words(part.files[0])
-    ours, theirs = samples_of_program(program, part, vdso_of(content)), samples_of_perf(path)
+    theirs, samples = samples_of_perf(path), list[Sample]()
     kinds: collections.Counter[str] = collections.Counter()
-    for key, sample in ours.items():
-        is_last = bool(sample.frames) and key in words and sample.frames[-1] == places.of(words[key] - 1)
-        kind = difference(sample, theirs[key], is_last) if key in theirs else "not in perf's text"
-        kinds[kind] += 1
-        if kind and is_shown:
-            show(key, kind, (sample, theirs.get(key, Sample("", ()))))
-    marks = collections.Counter(mark for sample in ours.values() for mark in sample.marks)
-    frames = sum(len(sample.frames) for sample in ours.values())
-    print(f"{path}: {len(ours):,} samples, {frames:,} frames, same: {kinds.pop('', 0):,}", end="")
+    for part in parts_of(content)[: None if is_all else 1]:
+        ours = samples_of_program(program, part, vdso_of(content))
+        samples += ours.values()
+        for key, kind in compared(part, ours, theirs):
+            kinds[kind] += 1
+            if kind and is_shown:
+                show(key, kind, (ours[key], theirs.get(key, Sample("", ()))))
+    marks = collections.Counter(mark for sample in samples for mark in sample.marks)
+    frames = sum(len(sample.frames) for sample in samples)
+    print(f"{path}: {len(samples):,} samples, {frames:,} frames, same: {kinds.pop('', 0):,}", end="")
     print("".join(f", {kind}: {count:,}" for kind, count in sorted(kinds.items())), end="; ")
     print(", ".join(f"{mark} {count:,}" for mark, count in sorted(marks.items())))
 
@@ -192,11 +200,12 @@ def compare(program: str, path: str, is_shown: bool) -> None:
 def main() -> None:
     parser = argparse.ArgumentParser(description="compares the frames of `profile` with those of perf")
     parser.add_argument("--show", action="store_true")
+    parser.add_argument("--all", action="store_true")
     parser.add_argument("program", metavar="PROFILE")
     parser.add_argument("files", metavar="PERF.DATA", nargs="+")
     words = parser.parse_args()
     for file in words.files:
-        compare(words.program, file, words.show)
+        compare(words.program, file, words.show, words.all)
 
 
 if __name__ == "__main__":

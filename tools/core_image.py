@@ -24,6 +24,8 @@ SEGMENTS_OF_SECTION = 44
 # `struct elf_prstatus`: the thread's number, and of `struct user_regs_struct` from byte 112 on what is read here.
 STATUS_SIZE, NUMBER_OFFSET, REGISTERS_OFFSET, REGISTERS_END = 280, 32, 112, 328
 RIP_OFFSET, RSP_OFFSET, FS_BASE_OFFSET = 240, 264, 280
+REGISTERS = "r15 r14 r13 r12 rbp rbx r11 r10 r9 r8 rax rcx rdx rsi rdi orig_rax rip cs eflags rsp".split()
+NO_REGISTERS = ("orig_rax", "cs", "eflags")
 
 # What Linux leaves free below a stack that grows (`stack_guard_gap`).
 STACK_GAP = 2**20
@@ -55,6 +57,12 @@ class Thread(NamedTuple):
         """All of its registers."""
         end = min(len(self.note.description), REGISTERS_END) // 8 * 8
         return [word for (word,) in struct.iter_unpack("<Q", self.note.description[REGISTERS_OFFSET:end])]
+
+    @property
+    def registers(self) -> dict[str, int]:
+        """Those that a snapshot has, by their names."""
+        found = dict(zip(REGISTERS, self.words))
+        return {name: value for name, value in found.items() if name not in NO_REGISTERS}
 
 
 class Mapped(NamedTuple):

@@ -1,7 +1,8 @@
 """Divides a perf.data file by the programs whose samples it has.
 
 `profile` walks the samples of a file over one set of tables. So the samples of each program that ran, with those of processes
-that it forked and that run it too, are a part of their own, with the mappings of that program. A part is a perf.data file with
+that it forked and that run it too, are a part of their own, with the mappings of that program. Where a file's code takes the place
+of another's, which was let go, the samples from there on are a part of their own, too. A part is a perf.data file with
 all records of the other kinds, which name the threads. Its records come in the order of their times: perf writes them by the
 processors that they come from, so that in its file a sample may stand before the start of its program.
 """
@@ -13,7 +14,9 @@ from collections import defaultdict
 from typing import Iterator, NamedTuple
 
 from elf_image import Range
-from perf_tables import BY_EXEC, COMM, MMAP2, SAMPLE, Mapping, mapping_of, record_places, thread_place, with_mapping
+from perf_tables import (
+    BY_EXEC, COMM, MMAP2, PROTECTION_CODE, SAMPLE, Mapping, mapping_of, record_places, thread_place, with_mapping,
+)
 
 FORK = 7
 FIRST_OF_PERF = 64
@@ -24,6 +27,17 @@ ALL_HAVE_WORDS = 1 << 18
 
 # Where a header says how long the section of the records is, and which sections of features follow it.
 SIZE_OF_RECORDS, FEATURES, SIZE_OF_FEATURES = 48, 72, 32
+
+
+def is_code_of_file(mapping: Mapping) -> bool:
+    """Whether a mapping is of the code of a file."""
+    return bool(mapping.protection & PROTECTION_CODE) and mapping.path.startswith("/") and not mapping.path.startswith("//")
+
+
+def takes_place(new: Mapping, old: Mapping) -> bool:
+    """Whether a mapping of a file's code takes the place of another file's."""
+    is_over = new.start < old.start + old.size and old.start < new.start + new.size
+    return is_over and new.path != old.path and is_code_of_file(new) and is_code_of_file(old)
 
 
 class Part(NamedTuple):
@@ -82,6 +96,15 @@ class Programs:
         self.running[process] = self.count
         self.count += 1
 
+    def _map(self, process: int, new: Mapping) -> None:
+        """A process maps a part of a file. Where it takes the place of code in which samples may stand, the samples so far keep
+        the mappings so far."""
+        program = self._program(process)
+        mappings = self.mappings[program]
+        if self.samples.get(program) and any(takes_place(new, old) for old in mappings):
+            self._begin(process)
+        self.mappings[self.running[process]] = with_mapping(mappings, new)
+
     def _read(self, place: Range) -> None:
         """Reads a record."""
         kind, misc = struct.unpack_from("<IH", self.content, place.start)
@@ -99,8 +122,7 @@ class Programs:
             self._begin(struct.unpack_from("<I", self.content, body)[0])
         elif kind == MMAP2:
             (process,) = struct.unpack_from("<I", self.content, body)
-            program = self._program(process)
-            self.mappings[program] = with_mapping(self.mappings[program], mapping_of(self.content[body : place.end]))
+            self._map(process, mapping_of(self.content[body : place.end]))
 
     def files(self, program: int, most: int) -> Iterator[bytes]:
         """perf.data files of at most so many bytes with the samples of a program, where one sample fits."""

@@ -29,6 +29,7 @@ from symbols import SUPPLIED, supplied_image
 
 # perf's types of records, and the bits of `misc` and of protections that are asked here.
 COMM, SAMPLE, MMAP2 = 3, 9, 10
+COMPRESSED = (81, 83)
 BY_EXEC = 0x2000
 PROTECTION_CODE = 4
 
@@ -37,6 +38,9 @@ IDENTIFIER, IP = 0x10000, 0x1
 
 # The size of a header, where it says which features follow the records, and the feature that is the kernel's release.
 SIZE_OF_HEADER, FEATURES, KERNEL_RELEASE = 104, 72, 4
+
+# What a header says of its own size where perf wrote to a pipe.
+SIZE_FOR_PIPE = 16
 
 
 class Mapping(NamedTuple):
@@ -65,6 +69,8 @@ def records_of(content: bytes) -> Iterator[tuple[int, int, bytes]]:
 
 def check_header(content: bytes) -> None:
     """Refuses what doesn't begin as a perf.data file of this byte order does."""
+    if content[:8] == b"PERFILE2" and content[8:16] == struct.pack("<Q", SIZE_FOR_PIPE):
+        raise Refused("it was written to a pipe")
     if content[:8] != b"PERFILE2" or len(content) < SIZE_OF_HEADER:
         raise Refused("it is no perf.data file of this byte order")
 
@@ -77,9 +83,11 @@ def record_places(content: bytes) -> Iterator[Range]:
         raise Refused("its recording didn't end")
     place, end = offset, min(offset + size, len(content))
     while place + 8 <= end:
-        (length,) = struct.unpack_from("<H", content, place + 6)
+        kind, _misc, length = struct.unpack_from("<IHH", content, place)
         if length < 8 or place + length > end:
             raise Refused(f"the record at byte {place} is cut off")
+        if kind in COMPRESSED:
+            raise Refused(f"the record at byte {place} is compressed")
         yield Range(place, place + length)
         place += length
 

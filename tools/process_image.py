@@ -31,7 +31,6 @@ WAIT_FOR_ALL = 0x40000000
 
 # `struct user_regs_struct` of a thread of 64 bits, and `struct elf_prstatus` around it, as a core has it.
 REGISTERS_SIZE, STATUS_SIZE = 216, 336
-REGISTERS = "r15 r14 r13 r12 rbp rbx r11 r10 r9 r8 rax rcx rdx rsi rdi orig_rax rip cs eflags rsp".split()
 
 # So long a thread is waited for: one that waits in the kernel for a device, or for its vfork's child, doesn't stop before.
 SECONDS_TO_STOP = 2.0
@@ -184,12 +183,6 @@ def status_note(thread: int, registers: bytes) -> Note:
     description = (head.ljust(REGISTERS_OFFSET, b"\0") + registers).ljust(STATUS_SIZE, b"\0")
     text = struct.pack("<III", 5, len(description), NT_PRSTATUS) + b"CORE\0\0\0\0" + description
     return Note(b"CORE", NT_PRSTATUS, description, text)
-
-
-def registers_of(thread: Thread) -> dict[str, int]:
-    """The registers of a thread by their names, those that a snapshot has."""
-    found = dict(zip(REGISTERS, thread.words))
-    return {name: value for name, value in found.items() if name not in ("orig_rax", "cs", "eflags")}
 
 
 # ---- memory

@@ -16,7 +16,7 @@ from core import Taken
 from core_image import Thread
 from elf_image import Refused
 from process_backtrace import process_of, taken_of
-from process_image import registers_of, stopped, thread_name
+from process_image import stopped, thread_name
 from snapshot_file import MOST_STATES_OF_A_SAMPLE, Object, region_object
 from thread_reports import module_entries, short_text
 
@@ -26,7 +26,7 @@ MOST_SAMPLES = 65_536
 
 def sample_object(thread: Thread, name: str) -> Object:
     """A thread as a sample, which stands before its instruction."""
-    start = {register: f"{value:#x}" for register, value in registers_of(thread).items()}
+    start = {register: f"{value:#x}" for register, value in thread.registers.items()}
     return {"start": start, "interrupted": True, "thread": {"id": thread.number} | ({"name": name} if name else {})}
 
 

@@ -70,6 +70,16 @@ class Parts(unittest.TestCase):
             [("/b", START + 0x1000, 0x800, 0x1000), ("/c", START + 0x1800, 0x1000, 0x1000), ("/d", START, 0x1000, 0x1000)],
         )
 
+    def test_code_in_the_place_of_another_files(self) -> None:
+        """A plugin that is let go, and another one where it was; data, and code of the same file, begin no part."""
+        content = perf_file([
+            mapping(1, START, "/sh"), mapping(1, START + 0x4000, "/a"), sample(1), mapping(1, START + 0x4000, "/b"), sample(1),
+            mapping(1, START + 0x4000, "/b"), mapping(1, START, "/data", protection=1), mapping(1, START, "//anon"), sample(1),
+        ])
+        after, before = parts_of(content)
+        self.assertEqual([[found.path for found in part.mappings] for part in (before, after)], [["/sh", "/a"], ["/b", "//anon"]])
+        self.assertEqual([part.samples for part in (before, after)], [1, 2])
+
     def test_the_order_of_times(self) -> None:
         """A sample that stands before the start of its program, as from another processor."""
         def timed(content: bytes, time: int, at: int) -> bytes:

@@ -119,6 +119,13 @@ class PerfTables(unittest.TestCase):
         self.assertIsNone(vdso_of(of_release(release + "-other")))
         self.assertIsNone(vdso_of(perf_file([sample(1)])))
 
+    def test_what_perf_wrote_to_a_pipe_and_compressed_records_are_named(self) -> None:
+        with self.assertRaisesRegex(Refused, "written to a pipe"):
+            list(records_of(struct.pack("<8sQ", b"PERFILE2", 16) + sample(7)))
+        for kind in (81, 83):
+            with self.assertRaisesRegex(Refused, "the record at byte 240 is compressed"):
+                list(records_of(perf_file([sample(7), record(kind, 0, b"12345678")])))
+
     def test_foreign_and_cut_files_are_refused(self) -> None:
         with self.assertRaises(Refused):
             list(records_of(b"2ELIFREP".ljust(104, b"\0")))

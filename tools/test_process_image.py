@@ -15,7 +15,7 @@ from core import by_file
 from core_image import Mapped, Memory, thread_of
 from elf_image import Range, Refused
 from process_backtrace import process_of
-from process_image import Mapping, Process, mapping_of, registers_of, stack_starts, status_note, stopped
+from process_image import Mapping, Process, mapping_of, stack_starts, status_note, stopped
 from process_status import why_no_process, why_untraced
 
 # A program that waits, with two threads and a word that is known in its memory.
@@ -77,7 +77,7 @@ class StoppedTest(unittest.TestCase):
             while (words := pathlib.Path(f"/proc/{number}/syscall").read_text("ascii").split()) == ["running"]:
                 time.sleep(0.01)
             with stopped(number) as process:
-                registers = registers_of(process.threads()[0])
+                registers = process.threads()[0].registers
             self.assertEqual([f"{registers['rsp']:#x}", f"{registers['rip']:#x}"], words[-2:])
             self.assertEqual(sorted(registers), sorted(
                 "rip rsp rax rbx rcx rdx rsi rdi rbp r8 r9 r10 r11 r12 r13 r14 r15".split()
@@ -176,7 +176,7 @@ class PartsTest(unittest.TestCase):
         note = status_note(77, registers)
         thread = thread_of(note)
         self.assertEqual((thread.number, thread.rip, thread.rsp, thread.fs_base), (77, 0x401006, 0x7004, 0x7008))
-        self.assertEqual(registers_of(thread)["rbx"], 0xB)
+        self.assertEqual(thread.registers["rbx"], 0xB)
         self.assertEqual((len(note.description), len(note.text)), (336, 12 + 8 + 336))
 
     def test_a_part_of_a_heap(self) -> None:

@@ -22,7 +22,6 @@ from typing import Iterable, NamedTuple, Sequence
 from core import Taken, interrupted_pointers, object_of, text_path
 from elf_image import Refused
 from loaded_module import module_objects
-from process_image import registers_of
 from programs import built_path, run_program
 from snapshot_file import MOST_BYTES, MOST_STATES, MOST_STATES_OF_A_SAMPLE, Object, Region, region_object
 
@@ -191,7 +190,7 @@ def answers_of(taken: Taken, programs: Programs, frame_pointers: bool) -> list[A
     if programs.backtrace is None or not rest:
         return found
     words = [programs.backtrace, *(["--frame-pointers"] if frame_pointers else [])]
-    starts = [registers_of(taken.threads[index]) for index in rest]
+    starts = [taken.threads[index].registers for index in rest]
     answers = dict(zip(rest, backtraces_of(taken, starts, words)))
     return [
         answers[index] if index in answers and (answers[index].fault is None or answer.fault is not None) else answer
