@@ -25,15 +25,24 @@ built() {
     "$@" -o "$scratch/$name" 2> "$scratch/build.errors" || { cat "$scratch/build.errors" >&2; exit 1; }
 }
 
-# NAME PROGRAM WORDS..: has a program leave a core and compares. Its stack has STACK kilobytes, and of the core the first
-# CUT percent are kept, where these are set.
+# PROGRAM WORDS..: has a program leave a core. Its stack has STACK kilobytes, and the system writes at most LIMIT of the core,
+# where these are set.
+leave_core() {
+    rm -f "$scratch"/core*
+    { (cd "$scratch" && ulimit -s "${STACK:-8192}" && ulimit -c "${LIMIT:-unlimited}" && "$@" > /dev/null); } 2> /dev/null
+}
+
+# NAME PROGRAM WORDS..: has a program leave a core and compares. The system writes WRITTEN percent of it, and the first CUT
+# percent of its bytes are kept, where these are set.
 core_of() {
     local name=$1 program=$scratch/$2
     shift 2
     asked "$name" || return
     echo "$name"
-    rm -f "$scratch"/core*
-    { (cd "$scratch" && ulimit -s "${STACK:-8192}" && "$program" "$@" > /dev/null); } 2> /dev/null
+    leave_core "$program" "$@"
+    if [ -n "${WRITTEN:-}" ]; then
+        LIMIT=$(($(du -k "$scratch"/core* | cut -f 1) * WRITTEN / 100)) leave_core "$program" "$@"
+    fi
     set -- "$scratch"/core*
     if [ ! -f "$1" ]; then
         echo "  no core: see core(5)"
@@ -64,6 +73,8 @@ cores_of() {
             core_of "$program $threads" "$program" "$threads"
         done
         CUT=60 core_of "$name $threads, cut to 60 %" "$name" "$threads"
+        WRITTEN=95 core_of "$name $threads, cut by the system" "$name" "$threads"
+        WRITTEN=80 core_of "$name-static $threads, cut by the system" "$name-static" "$threads"
         [ "$name" = c ] || STACK=512 core_of "$name $threads, a stack overflow" "$name" "$threads" overflow
     done
 }
