@@ -1,12 +1,12 @@
 -- What instructions make of bodies. No public clause cites this.
-use Rattle.std.specs.Prelude.{◌≡◌, ℕ, ◌<◌, List, length, slice_index_or, Option, Some, None, Result, Ok}
+use Rattle.std.specs.Prelude.{◌≡◌, ℕ, ◌<◌, Bool, false, List, length, slice_index_or, Option, Some, None, Result, Ok, Err}
 use Rattle.std.specs.List.{AllByRecursion}
 use Rattle.unwind_definitions.specs.declared.error.Error.{Error as Fault}
 use Rattle.unwind_definitions.specs.Instructions.{Instruction, Offset, Write, CfaOffset, Reset}
-use Rattle.unwind_definitions.specs.Row.{ColumnAndOffset, RowInstructions, fault_of, initial_rule}
+use Rattle.unwind_definitions.specs.Row.{ColumnAndOffset, RowInstructions, fault_of, has_column, initial_rule}
 use Rattle.frame_rows.specs.Bodies.{Says, kept_answer}
 use Rattle.frame_rows.specs.RowValue.{RowValue}
-use Rattle.frame_rows.specs.Rules.{rule_in}
+use Rattle.frame_rows.specs.Rules.{is_room, rule_in}
 use Rattle.frame_rows.specs.Running.{Represents, push}
 use Rattle.frame_rows.specs.declared.known_steps.KnownStep.{KnownStep}
 use Rattle.frame_rows.specs.declared.machine.Machine.{Machine}
@@ -49,6 +49,16 @@ pub record SaysWithCfa (old new : List (Result RowValue Fault)) (column offset p
   pub within : place < length old
   pub was : (d : Result RowValue Fault) → slice_index_or old place d ≡ Ok row
   pub says : Says new to (Ok (record { cfa = ColumnAndOffset column offset; rules = row.rules; saved_args_size = row.saved_args_size }))
+
+-- whether a body's CFA is a column and an offset
+abbrev pub has_column_cfa : Result RowValue Fault → Bool
+has_column_cfa (Ok row) = has_column (Some row.cfa)
+has_column_cfa (Err e) = false
+
+-- whether a column of a body can get a rule
+abbrev pub takes_rule : ℕ → Result RowValue Fault → Bool
+takes_rule column (Ok row) = is_room column row.rules
+takes_rule column (Err e) = false
 
 -- what the operands of two kinds of steps stand for
 abbrev pub offset_step : KnownStep → Instruction

@@ -141,6 +141,7 @@ impl<'a> BodyRun<'a> {
             HasInitial bodies.new self.old.first run →
             IsLeft (coding_in coding.entry) self.old.rest.now q →
             TakesTurn bodies.new (coding_in coding.entry) start run q Turn.Ran self.new }
+        ensures stays { result ≡ Ok false → self.new ≡ self.old }
         ensures within { IfOk result (λ _. IsWithin bodies.new self.new) }
         ensures fewer { length self.new.rest.now ≤ length self.old.rest.now }
         ensures first { self.new.first ≡ self.old.first }
@@ -164,6 +165,7 @@ impl<'a> BodyRun<'a> {
 
     // Goes on to a body, if there is one, with these bytes left. It answers whether there is.
     fn move_to(&mut self, made: Option<usize>, rest: &'a [u8]) -> bool
+        ensures moved { IfSome made (λ _. result ≡ true) }
         ensures moves { IfSome made (λ place. (self.new.place ≡ place) ×
             (self.new.rest.now ≡ rest.now)) }
         ensures stays { made ≡ None → (result ≡ false) × (self.new ≡ self.old) }
@@ -198,6 +200,7 @@ impl<'a> BodyRun<'a> {
             HasInitial bodies.new self.old.first run →
             IsLeft (coding_in coding.entry) self.old.rest.now q →
             TakesTurn bodies.new (coding_in coding.entry) start run q Turn.Ran self.new }
+        ensures stays { result ≡ Ok false → self.new ≡ self.old }
         ensures within { IfOk result (λ _. IsWithin bodies.new self.new) }
         ensures fewer { length self.new.rest.now ≤ length self.old.rest.now }
         ensures first { self.new.first ≡ self.old.first }

@@ -1,7 +1,7 @@
 //! What the rows of a table say, each kept once where many say the same. DWARF 5 section 6.4.1.
 
 ghost use Rattle.std.specs.Prelude.{◌≡◌, ◌<◌, ◌≤◌, ◌++◌, ◌∷◌, [], IfOk, IfSome, List, OnErr, OnOk, Result};
-ghost use Rattle.std.specs.Prelude.{ℕ, Some, length, map, slice_index_or, true};
+ghost use Rattle.std.specs.Prelude.{ℕ, None, Ok, Some, false, is_ok, length, map, slice_index_or, true};
 ghost use Rattle.unwind_definitions.specs.declared.error.Error.{Error as Fault};
 ghost use Rattle.unwind_definitions.specs.Instructions.{Rule};
 ghost use Rattle.frame_rows.specs.RowValue.{RowValue};
@@ -201,6 +201,8 @@ impl<'a> RowBodies<'a> {
         ensures grows { Grows self.old self.new }
         ensures says { IfOk result (λ made. IfSome made (λ to.
             SaysWithCfa self.old self.new register.0 offset place to)) }
+        ensures none { result ≡ Ok None → (d : Result RowValue Fault) →
+            is_ok (slice_index_or self.old place d) ≡ false }
     {
         let Ok(row) = self.get(place) else {
             return Ok(None);

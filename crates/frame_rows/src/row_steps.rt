@@ -1,12 +1,12 @@
 //! Bodies of rows, and what instructions make of them. DWARF 5 section 6.4.2.
 
-ghost use Rattle.std.specs.Prelude.{[], ◌≡◌, ◌<◌, ◌≤◌, IfOk, IfSome, List, Ok, Result, length, map, true};
-ghost use Rattle.std.specs.Prelude.{slice_index_or};
+ghost use Rattle.std.specs.Prelude.{[], ◌≡◌, ◌<◌, ◌≤◌, ◌&&◌, IfOk, IfSome, List, None, Ok, Result};
+ghost use Rattle.std.specs.Prelude.{false, is_ok, length, map, slice_index_or, true};
 ghost use Rattle.std.specs.Option.{option_map};
 ghost use Rattle.unwind_definitions.specs.declared.error.Error.{Error as Fault};
 ghost use Rattle.unwind_definitions.specs.Instructions.{Cfa, CfaColumn, CfaOffset, Offset, Write};
 ghost use Rattle.frame_rows.specs.Bodies.{Grows, Says, kept_answer};
-ghost use Rattle.frame_rows.specs.BodySteps.{MakesBody, RestoresBody, SaysWithCfa};
+ghost use Rattle.frame_rows.specs.BodySteps.{MakesBody, RestoresBody, SaysWithCfa, has_column_cfa, takes_rule};
 ghost use Rattle.frame_rows.specs.KeptRows.{Ascends, answer_rule_count};
 ghost use Rattle.frame_rows.specs.RowValue.{RowValue};
 ghost use Rattle.frame_rows.specs.Rules.{entry_of, rule_in, rule_meaning, AscendsFrom};
@@ -155,6 +155,8 @@ impl<'a> SteppedBodies<'a> {
         ensures grows { Grows self.old self.new }
         ensures makes { IfOk result (λ made. IfSome made (λ to.
             MakesBody self.new (CfaOffset offset) place to)) }
+        ensures none { result ≡ Ok None → (d : Result RowValue Fault) →
+            has_column_cfa (slice_index_or self.old place d) ≡ false }
     {
         let Ok(row) = self.bodies.get(place) else {
             return Ok(None);
@@ -191,6 +193,8 @@ impl<'a> SteppedBodies<'a> {
         ensures grows { Grows self.old self.new }
         ensures makes { IfOk result (λ made. IfSome made (λ to.
             MakesBody self.new (Write register.0 (Offset offset)) place to)) }
+        ensures none { result ≡ Ok None → (d : Result RowValue Fault) →
+            takes_rule register.0 (slice_index_or self.old place d) ≡ false }
     {
         let Ok(row) = self.bodies.get(place) else {
             return Ok(None);
@@ -226,6 +230,8 @@ impl<'a> SteppedBodies<'a> {
         ensures grows { Grows self.old self.new }
         ensures makes { IfOk result (λ made. IfSome made (λ to.
             MakesBody self.new (Cfa register.0 offset) place to)) }
+        ensures none { result ≡ Ok None → (d : Result RowValue Fault) →
+            is_ok (slice_index_or self.old place d) ≡ false }
     {
         let Some(to) = self.with_cfa(known, place, register, offset)? else {
             return Ok(None);
@@ -245,6 +251,8 @@ impl<'a> SteppedBodies<'a> {
         ensures grows { Grows self.old self.new }
         ensures makes { IfOk result (λ made. IfSome made (λ to.
             MakesBody self.new (CfaColumn register.0) place to)) }
+        ensures none { result ≡ Ok None → (d : Result RowValue Fault) →
+            has_column_cfa (slice_index_or self.old place d) ≡ false }
     {
         let Ok(row) = self.bodies.get(place) else {
             return Ok(None);
@@ -278,6 +286,9 @@ impl<'a> SteppedBodies<'a> {
         ensures grows { Grows self.old self.new }
         ensures makes { IfOk result (λ made. IfSome made (λ to.
             RestoresBody self.new register.0 first place to)) }
+        ensures none { result ≡ Ok None → (d : Result RowValue Fault) →
+            is_ok (slice_index_or self.old first d) &&
+            takes_rule register.0 (slice_index_or self.old place d) ≡ false }
     {
         let Ok(initial) = self.bodies.get(first) else {
             return Ok(None);
@@ -312,6 +323,8 @@ impl<'a> SteppedBodies<'a> {
         ensures grows { Grows self.old self.new }
         ensures says { IfOk result (λ made. IfSome made (λ to.
             SaysWithCfa self.old self.new register.0 offset place to)) }
+        ensures none { result ≡ Ok None → (d : Result RowValue Fault) →
+            is_ok (slice_index_or self.old place d) ≡ false }
     {
         self.bodies.with_cfa(known, place, register, offset)
     }

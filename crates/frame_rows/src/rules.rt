@@ -142,7 +142,7 @@ impl<'a> RegisterRules<'a> {
         }
     }
 
-    /// Gives a register a rule, or takes it away, as its initial rule is.
+    /// Gives a register its initial rule, or takes its rule away where there is no initial one.
     pub(crate) fn reset(
         &mut self,
         register: Register,
