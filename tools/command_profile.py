@@ -12,8 +12,8 @@ picture and the stacks it doesn't. The files are written when all is there, and 
 standard streams; lines on standard error say how far the profile is.
 
 perf takes N samples a second (499) of each thread that runs, with 8 KB of its stack. The processes that the command begins
-count, too: the samples of each program are walked over that program's tables, by the built program `profile`. It wants perf
-(Debian: linux-perf).
+count, too: the samples of each program are walked over that program's tables, by the built program `profile`, in parts where it
+maps a file's code in place of another file's. It wants perf (Debian: linux-perf).
 """
 from __future__ import annotations
 
@@ -193,7 +193,7 @@ def named_profile(content: bytes, program: str, is_script: bool) -> Named:
         raise Refused("perf took no sample: the command may have run for too short a time, or have waited")
     counts, script = Counter[tuple[Name, ...]](), []
     for number, part in enumerate(parts, 1):
-        say(f"{counted(part.samples, 'sample')} of {file_of(part) or 'no file'}, program {number} of {len(parts)}")
+        say(f"{counted(part.samples, 'sample')} of {file_of(part) or 'no file'}, part {number} of {len(parts)}")
         tables = tables_of(part.mappings, vdso_of(content))
         counts.update(counts_of(tables, lines_of(part, tables, program)))
         if is_script:

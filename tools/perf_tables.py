@@ -4,8 +4,8 @@
     perf_tables.py PERF.DATA > TABLES.json
     perf_tables.py --process PID PERF.DATA > TABLES.json
 
-Of the process PID, or of the one with the most samples, each file that it mapped as code is read where
-the mapping says: its frame table and the header of this. A process has the mappings of its last program
+Of the process PID, or of the program with the most samples, each file that it mapped as code is read where
+the mapping says: its frame table and the header of this. The process PID has the mappings of its last program
 alone. What can't be taken is said on standard error. The vdso, which the system maps and no file has, is
 taken from the memory of this program, where the profile is of the same release of the kernel.
 

@@ -59,7 +59,7 @@ class Lines(unittest.TestCase):
                 line_of(text, biases)
 
     def test_names(self) -> None:
-        """Frames without a module have no name; a thread's name, why a stack ends, and what is said of its innermost frame do."""
+        """Frames without a module have no name; a process's name, why a stack ends, and what is said of its innermost frame do."""
         lines = [Line(("sh", "[cut]"), Stack((5, 6), 2)), Line(("sh", "[cut]"), Stack((7, 8), 3)), Line(("a 1",), Stack((), 1)),
                  Line(("sh",), Stack((5,), 4), ("[popped]",))]
         counts = counts_of({"regions": [], "modules": []}, lines)
@@ -115,7 +115,7 @@ class Runs(unittest.TestCase):
         self.assertEqual((done.returncode, done.stdout), (0, "said\n"), done.stderr)
         self.assertEqual(done.stderr.splitlines(), [
             "profile.sh: records sh -c 'echo said; exit 7'", "profile.sh: sh ended with status 7",
-            "profile.sh: 3 samples of library, program 1 of 1", "profile.sh: 3 samples in 2 stacks: profile.svg and stacks",
+            "profile.sh: 3 samples of library, part 1 of 1", "profile.sh: 3 samples in 2 stacks: profile.svg and stacks",
         ])
         self.assertEqual(self.written(), {"profile.svg", "stacks"})
         self.assertRegex((self.folder / "stacks").read_text(), r"\Ash;\[cut\];\S+;\S+ 2\nsh;\[unknown\] 1\n\Z")
