@@ -264,7 +264,7 @@ pub fn run<I: Source, O: Sink>(
         (O.holds output.new)) }
     // The line of a sample whose thread's stack is known, of each of whose frames it is known how its
     // caller's state follows, in an ELF module by facts that its tables say, at any address, has the
-    // frames of the stack.
+    // frames of the stack, by their functions where these are described.
     ensures folded_known { IfSome (I.left input.old) (λ bytes. (t : Tables)
         (records earlier : List RecordValue) (sample : SampleValue) (s : State)
         (callers : List State) →

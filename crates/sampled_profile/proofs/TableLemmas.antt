@@ -1,4 +1,4 @@
--- Stacks by their addresses: a sample more, and the lines of all of them.
+-- Stacks by their functions: a sample more, and the lines of all of them.
 use Rattle.std.proofs.Common.{◌≡◌, ◌+◌, ◌≤◌, ℕ, zero, suc, Bool, true, false, cond, List, [], ◌∷◌, Some, refl, sym, ap, ◌∙◌, arith}
 use Rattle.std.specs.List.{count_by, sum_by}
 use Rattle.std.specs.List.Sorted.{IsPermutation}

@@ -1,4 +1,4 @@
--- The names of threads, as the records of a perf.data file tell them.
+-- The names of threads and of their processes, as the records of a perf.data file tell them.
 use Rattle.std.specs.Prelude.{ℕ, zero, suc, ◌==◌, List, [], ◌∷◌, Option, Some, None, if◌then◌else◌}
 use Rattle.perf_data.specs.declared.sample.Thread.{Thread}
 use Rattle.perf_data.specs.Records.{RecordValue, Sampled, Mapped, Named, Forked, Exited, OtherKind}

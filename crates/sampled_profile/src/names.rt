@@ -1,4 +1,4 @@
-// The names of threads, as the records so far say.
+// The names of threads and of their processes, as the records so far say.
 ghost use Rattle.std.specs.Prelude.{◌≡◌, ◌∷◌, [], List, OnOk};
 ghost use Rattle.std.specs.Option.{option_map};
 ghost use Rattle.perf_data.specs.Records.{RecordValue, Named, Forked};
