@@ -91,7 +91,7 @@ impl<'a> KnownPrograms<'a> {
         Ok(())
     }
 
-    // Makes room for four times as many where twice as many were noted as there is room for.
+    // Makes room for eight times as many where twice as many were noted as there is room for.
     fn make_room(&mut self) -> Result<(), AllocError>
         ensures { StayOrGo self.old self.new }
     {
@@ -100,7 +100,7 @@ impl<'a> KnownPrograms<'a> {
             return Ok(());
         }
         self.clear();
-        self.slots.resize(count.saturating_mul(4).max(FIRST), None)
+        self.slots.resize(count.saturating_mul(8).clamp(FIRST, MOST), None)
     }
 
     /// The program of a description whose function has so many bytes, lent, where it is known and
