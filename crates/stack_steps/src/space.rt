@@ -355,8 +355,9 @@ impl<'a> Space<'a> {
     /// - and the index keeps no more than what the others have left of 1,048,576 rows and 4,194,304
     ///   rules of registers in the whole space.
     ///
-    /// Each frame table is read once, and no program is run more than once for a description. Modules
-    /// that name the same tables one after another share one index, of which each keeps as much.
+    /// Each frame table is read once, and a program is begun at most twice for a description, as
+    /// [`Prepared::build`](eh_frame::Prepared::build) says. Modules that name the same tables one after
+    /// another share one index, of which each keeps as much.
     ///
     /// # Errors
     ///

@@ -314,6 +314,20 @@ where
     // Each reason is given exactly for its cause.
     ensures why { (reason : EndReason) → (result ≡ reason) ↔
         ComesTo reason space.now limit start.now interrupted }
+    // A described chain, through modules of whatever format, that the limit has room for is walked
+    // to its end. The reason is there that the last state returns to 0, or that no module holds the
+    // byte before its return address, or that the module which does has no description of it.
+    ensures chain { (functions : List Function) (s : State) (calls : List Call) →
+        StartsChain space.now start.now limit functions s calls → IsFalse interrupted →
+        ShowChain room.new.visited s calls ×
+        (result ≡ end_reason_of_chain space.now.modules (last_state s calls)) }
+    // So is a function that was stopped in its body, in the prologue where it is of an ELF or a PE
+    // module, or in an epilog where it is of a PE module, and then the described chain that its
+    // caller begins.
+    ensures stopped { (functions : List Function) (s : State) (call : Call) (calls : List Call) →
+        StartsStopped space.now start.now limit functions s call calls → IsTrue interrupted →
+        ShowChain room.new.visited s (call ∷ calls) ×
+        (result ≡ end_reason_of_chain space.now.modules (last_state call.caller calls)) }
     // A stack of each of whose frames it is known how its caller's state follows is walked to its end,
     // through signals' frames too, for the reason that its outermost state has.
     ensures known { (s : State) (callers : List State) →
@@ -362,6 +376,20 @@ where
     // Each reason is given exactly for its cause.
     ensures why { (reason : EndReason) → (result ≡ reason) ↔
         ComesTo reason space.now limit start.now interrupted }
+    // A described chain, through modules of whatever format, that the limit has room for is walked
+    // to its end. The reason is there that the last state returns to 0, or that no module holds the
+    // byte before its return address, or that the module which does has no description of it.
+    ensures chain { (functions : List Function) (s : State) (calls : List Call) →
+        StartsChain space.now start.now limit functions s calls → IsFalse interrupted →
+        ShowChain room.new.visited s calls ×
+        (result ≡ end_reason_of_chain space.now.modules (last_state s calls)) }
+    // So is a function that was stopped in its body, in the prologue where it is of an ELF or a PE
+    // module, or in an epilog where it is of a PE module, and then the described chain that its
+    // caller begins.
+    ensures stopped { (functions : List Function) (s : State) (call : Call) (calls : List Call) →
+        StartsStopped space.now start.now limit functions s call calls → IsTrue interrupted →
+        ShowChain room.new.visited s (call ∷ calls) ×
+        (result ≡ end_reason_of_chain space.now.modules (last_state call.caller calls)) }
     // A stack of each of whose frames it is known how its caller's state follows is walked to its end,
     // through signals' frames too, for the reason that its outermost state has.
     ensures known { (s : State) (callers : List State) →
