@@ -53,8 +53,8 @@ pub use fde_finders::{FrameInfo, FrameInfoKind};
 pub use outcome::{Delivery, Ending, Outcome};
 pub use resumes::{Resumes, first_entry_counts};
 pub use stack_steps::{
-    DeliverError, FrameCache, GrownSpace, Languages, MachoTables, Module, ModuleTables, PeTables,
-    Space, SpaceError, Stepped, step,
+    DeliverError, DescribedFunction, FrameCache, GrownSpace, Languages, MachoTables, Module,
+    ModuleTables, PeTables, Space, SpaceError, Stepped, step,
 };
 pub use stack_walks::{
     EndReason, Room, RowRoom, Trail, Visited, each_reason_is_given, walk, walk_into,
