@@ -1,6 +1,7 @@
 //! Running a frame program from one body of a row to another. DWARF 5 section 6.4.3.
 
-ghost use Rattle.std.specs.Prelude.{[], ◌≡◌, ◌<◌, ◌≤◌, ◌^◌, ℕ, IfOk, IfSome, None, Ok, false, length, take, true};
+ghost use Rattle.std.specs.Prelude.{[], ◌≡◌, ◌≢◌, ◌<◌, ◌≤◌, ◌^◌, ℕ, IfOk, IfSome, None, Ok, false, length, take};
+ghost use Rattle.std.specs.Prelude.{true};
 ghost use Rattle.std.specs.List.{AllByRecursion};
 ghost use Rattle.unwind_definitions.specs.Instructions.{Program};
 ghost use Rattle.unwind_definitions.specs.Row.{RowInstructions};
@@ -297,6 +298,7 @@ fn finish<'a>(
     requires within { IsWithin bodies.now run.old }
     requires none { run.old.rest.now ≡ [] }
     requires room { HasRoom run.old }
+    ensures ended { IfOk result (λ end. end ≡ RunEnd.Ended) }
     ensures bodied { AllByRecursion (HasBody bodies.now) rows.old.items →
         AllByRecursion (HasBody bodies.now) rows.new.items }
     ensures longer { length rows.old.items ≤ length rows.new.items }
@@ -332,6 +334,7 @@ pub(crate) fn run_bodies<'a>(
     requires bodied { AllByRecursion (HasBody bodies.old) rows.old.items }
     requires factor { coding.code_factor < 2 ^ 32 }
     requires room { HasRoom run.old }
+    ensures known { result ≢ Ok RunEnd.Stopped }
     ensures grows { Grows bodies.old bodies.new }
     ensures bodied { AllByRecursion (HasBody bodies.new) rows.new.items }
     ensures longer { length rows.old.items ≤ length rows.new.items }
