@@ -1,5 +1,5 @@
 -- Stacks by their functions with their counts, as a map keeps them. No public clause cites this.
-use Rattle.std.specs.Prelude.{◌≡◌, ℕ, ◌+◌, ◌≤◌, false, cond, List, [], ◌∷◌, length, slice_range, Option, Some, None, if◌then◌else◌}
+use Rattle.std.specs.Prelude.{◌≡◌, ℕ, ◌+◌, ◌≤◌, cond, List, [], ◌∷◌, length, slice_range, Option, Some, None, if◌then◌else◌}
 use Rattle.std.specs.List.{count_by, sum_by}
 use Rattle.folded_stacks.specs.Counts.{StackCount}
 use Rattle.folded_stacks.specs.Stacks.{is_same}

@@ -1,6 +1,5 @@
-use Rattle.std.proofs.Common.{◌≡◌, ◌++◌, ◌∷◌, ℕ, List, true, sym, subst, ◌∙◌}
+use Rattle.std.proofs.Common.{◌≡◌, ◌++◌, ◌∷◌, ℕ, List, sym, subst, ◌∙◌}
 use Rattle.stack_steps.specs.Modules.{SpaceValue}
-use Rattle.sampled_profile.specs.Ends.{returns_of}
 use Rattle.sampled_profile.specs.Frames.{addresses_of}
 use Rattle.sampled_profile.specs.Scripts.{frame_lines}
 use Rattle.sampled_profile.proofs.ScriptLemmas.{one_more_line}
