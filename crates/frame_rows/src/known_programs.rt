@@ -100,7 +100,8 @@ impl<'a> KnownPrograms<'a> {
             return Ok(());
         }
         self.clear();
-        self.slots.resize(count.saturating_mul(8).clamp(FIRST, MOST), None)
+        self.slots
+            .resize(count.saturating_mul(8).clamp(FIRST, MOST), None)
     }
 
     /// The program of a description whose function has so many bytes, lent, where it is known and
