@@ -5,7 +5,7 @@
 #
 #     bench/profiles.sh PERF.DATA..
 #
-# What the bytes take is told by the same file in which the samples are records of a kind that isn't read. RUNS (3) is how
+# What the bytes take is what the same file takes in which the samples are records of a kind that isn't read. RUNS (3) is how
 # often the seconds are taken: the median is printed. Wants the built program (PROFILE, crates/profile/out/profile), valgrind,
 # GNU time and python3, and perf for its seconds. A file is one that `perf record --call-graph dwarf` wrote, and what it
 # mapped lies where it says.

@@ -94,7 +94,7 @@ typedef struct kz_frame {
 enum {
     KZ_OUTERMOST = 0,      /* the last frame's `ra` is 0: it is the end of the stack */
     KZ_NO_MODULE = 1,      /* no module holds `address` */
-    KZ_NO_DESCRIPTION = 2, /* the tables of its module tell nothing of `address` */
+    KZ_NO_DESCRIPTION = 2, /* the tables of its module say nothing of `address` */
     KZ_UNREADABLE = 3,     /* `detail` bytes into the frame table an entry can't be read, for `error` */
     KZ_REFUSED = 4,        /* the step from `address` has the fault `error` */
     KZ_LIMIT = 5           /* there are as many frames as there are places */
@@ -206,7 +206,7 @@ enum {
 #define KZ_MODULE(start, end, tables, more, format) {sizeof(kz_module), (start), (end), (tables), (more), (format)}
 
 /* Walks the stack of a stopped thread as far as it goes, at most `frames_length` frames (and at most
- * 2^32 - 1), and tells why there are no more.
+ * 2^32 - 1), and says why there are no more.
  *
  * `interrupted` says that the thread stands before the instruction at `start->ip`, and not after a call.
  * Where the answer isn't KZ_OK, `frames` and `end` are as before, and `place` says what is faulty, unless
@@ -291,7 +291,7 @@ uint32_t kz_session_open(const kz_region *regions, size_t regions_length, const 
                          size_t modules_length, uint32_t limit, void **session, kz_place *place);
 
 /* Walks as kz_walk does, over the session's modules, with these regions beside those of the session: the
- * thread's stack, in one region or a few. At most the session's `limit` frames are told. No memory is
+ * thread's stack, in one region or a few. At most the session's `limit` frames are written. No memory is
  * taken, and the answer is never KZ_NO_MEMORY. A thread that was stopped at an instruction has 128 bytes of
  * its stack below its stack pointer: hand these in, too. */
 uint32_t kz_session_walk(kz_session *session, const kz_region *regions, size_t regions_length,

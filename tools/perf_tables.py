@@ -205,7 +205,7 @@ def tables_of(mappings: list[Mapping], vdso: bytes | None = None) -> Object:
 
 def program_mappings(content: bytes) -> list[Mapping]:
     """The mappings of the program with the most samples. Records stand in a file by the processor that wrote them, so the one that says
-    that a program began may come after those of what it mapped; the parts of a recording are told by the records' times."""
+    that a program began may come after those of what it mapped; the parts of a recording go by the records' times."""
     from perf_parts import parts_of  # it reads records by this module
 
     parts = [part for part in parts_of(content) if part.samples]
