@@ -39,16 +39,27 @@ without_outermost() {
     grep -v '^frame [0-9]* ra=0x0 ' "$1"
 }
 
-# The addresses of `bt`, from its #0 on: as gdb reads a core it prints another one.
+# `bt`, from its #0 on: as gdb reads a core it prints another one.
+lines_of_bt() {
+    tac "$1" | sed '/^#0 /q' | tac
+}
+
 addresses_of_bt() {
-    tac "$1" | sed '/^#0 /q' | tac | sed -nE 's/^#[0-9]+ +0x0*([0-9a-f]+) in .*/0x\1/p'
+    lines_of_bt "$1" | sed -nE 's/^#[0-9]+ +0x0*([0-9a-f]+) in .*/0x\1/p'
+}
+
+# The addresses of a walk, but for the frames of signals, of which `bt` prints none.
+addresses_of_walk() {
+    local signals
+    signals=$(lines_of_bt "$1.gdb" | sed -nE 's/^#([0-9]+) +<signal handler called>.*/\1/p' | paste -sd '|')
+    without_outermost "$1.walk" | grep -vE "^frame (${signals:-none}) " | sed -nE 's/^frame [0-9]+ ra=(\S+) .*/\1/p'
 }
 
 compare_one() {
     "$2" walk < "$1.json" > "$1.walk"
     diff <(without_outermost "$1.walk") <(grep -E '^(frame|end)' "$1.gdb")
-    diff <(without_outermost "$1.walk" | sed -nE 's/^frame [0-9]+ ra=(\S+) .*/\1/p') <(addresses_of_bt "$1.gdb")
-    echo "$(basename "$1"): the same $(addresses_of_bt "$1.gdb" | wc -l) frames"
+    diff <(addresses_of_walk "$1") <(addresses_of_bt "$1.gdb")
+    echo "$(basename "$1"): the same $(without_outermost "$1.walk" | grep -c '^frame ') frames"
 }
 
 compare() {
