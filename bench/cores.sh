@@ -1,6 +1,8 @@
 #!/usr/bin/env bash
 # Prints how long the backtraces of all threads of a core or a process take, by backtrace.sh, gdb and
-# eu-stack, and whether their frames are the same; and of a core the same of core_stacks, without names and with.
+# eu-stack, and whether their frames are the same; and of a core the same of core_stacks, without names and with. Where gdb
+# has other frames of a core, it is asked once more with the libraries that the core's note NT_FILE names
+# (mapped_libraries.py): of a core that was cut off it may lack their list.
 #
 #   cores.sh PROGRAM CORE
 #   cores.sh PID                   a process whose threads wait, or that is stopped (kill -STOP)
@@ -35,6 +37,14 @@ line() {
     awk -v name="$1" -v said="$2" '{ printf "%-11s %7.3f s, %7.3f s  %s\n", name, $1, $2 + $3, said }' "$scratch/$1.time"
 }
 
+# FILE WORDS..: the frames of all threads by gdb, with these words more.
+frames_of_gdb() {
+    local file=$scratch/$1
+    shift
+    timeout "$most" gdb -nx -batch "$@" -x "$tools/frames.py" -ex 'thread apply all frames' "${of_gdb[@]}" \
+        > "$file" 2> /dev/null < /dev/null
+}
+
 # What is said of core_stacks' frames, or what it says where it refuses the core.
 of_core_stacks() {
     if grep -q '^thread ' "$scratch/$1"; then
@@ -48,11 +58,15 @@ past=(-ex 'set backtrace past-main on' -ex 'set backtrace past-entry on')
 timed ours "$tools/backtrace.sh" "$@" --threads
 timed gdb gdb -nx -batch "${past[@]}" -ex 'thread apply all bt' "${of_gdb[@]}"
 timed eu-stack eu-stack -n 0 "${of_eu[@]}"
-timeout "$most" gdb -nx -batch -x "$tools/frames.py" -ex 'thread apply all frames' "${of_gdb[@]}" \
-    > "$scratch/frames" 2> /dev/null < /dev/null
+frames_of_gdb frames
 line ours "$(grep -c '^Thread ' "$scratch/ours") threads, $(grep -c '^#' "$scratch/ours") lines"
-line gdb "$(python3 "$here/core_frames.py" "$scratch/ours" "$scratch/frames")"
+said=$(python3 "$here/core_frames.py" "$scratch/ours" "$scratch/frames")
 gdb_status=$?
+line gdb "$said"
+if [ $# -eq 2 ] && [ $gdb_status -ne 0 ]; then
+    frames_of_gdb told -x "$here/mapped_libraries.py"
+    echo "gdb, with the files of NT_FILE: $(python3 "$here/core_frames.py" "$scratch/ours" "$scratch/told")"
+fi
 if [ $# -eq 2 ] && [ -x "$core_stacks" ]; then
     timed core_stacks "$core_stacks" "$2"
     line core_stacks "$(of_core_stacks core_stacks)"

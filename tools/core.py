@@ -1,9 +1,9 @@
 #!/usr/bin/env python3
 """Makes of a program and its core what `unwind_cli core` reads.
 
-    tools/core.py PROGRAM CORE FILE [--limit N] [--stack-bytes N] [--root DIR]
+    tools/core.py PROGRAM CORE [FILE] [--limit N] [--stack-bytes N] [--root DIR]
 
-Of the core it takes the notes on threads, byte for byte, and of its memory what stacks need: a core file by the same
+Without FILE it is printed: `tools/core.py PROGRAM CORE | unwind_cli core` walks the threads. Of the core it takes the notes on threads, byte for byte, and of its memory what stacks need: a core file by the same
 format, with fewer segments. What `unwind_cli core` writes is proved of that file; its threads are those of the core, and
 each of its bytes is the core's at the same address. A walk that asks for anything else is refused as unmapped.
 
@@ -27,6 +27,7 @@ import bisect
 import io
 import os
 import re
+import signal
 import struct
 import sys
 from typing import BinaryIO, Iterable, Iterator, NamedTuple, Sequence
@@ -477,10 +478,11 @@ def main() -> None:
     """Reads a core, and writes the file."""
     import argparse  # which takes long to load, and core_backtrace.py has no need of it
 
+    signal.signal(signal.SIGPIPE, signal.SIG_DFL)
     parser = argparse.ArgumentParser(prog="core.py", description="Make of a core what `unwind_cli core` reads.")
     parser.add_argument("program", metavar="PROGRAM")
     parser.add_argument("core", metavar="CORE")
-    parser.add_argument("file", metavar="FILE")
+    parser.add_argument("file", metavar="FILE", nargs="?", help="where it is written, else standard output")
     parser.add_argument("--limit", type=int, default=MOST_STATES, help="the most states of a walk")
     parser.add_argument("--stack-bytes", type=int, help="the most bytes of each stack")
     parser.add_argument("--root", default="", help="the folder of the machine that the core is of")
@@ -494,7 +496,11 @@ def main() -> None:
         for one in taken.loaded:
             say(f"{taken_line(one.module, '')}, build id {one.module.build_id}")
         say(f"{len(taken.threads)} threads, {sum(len(stack.content) for stack in taken.stacks)} bytes of stacks")
-        write_whole(options.file, text_of(object_of(taken, options.limit)))
+        text = text_of(object_of(taken, options.limit))
+        if options.file is None:
+            sys.stdout.write(text)
+        else:
+            write_whole(options.file, text)
     except (OSError, Refused) as error:
         sys.exit(f"core: {error}")
 

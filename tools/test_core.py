@@ -8,12 +8,14 @@ from __future__ import annotations
 
 import contextlib
 import io
+import json
 import os
 import pathlib
 import re
 import shutil
 import struct
 import subprocess
+import sys
 import tempfile
 import unittest
 from unittest import mock
@@ -258,6 +260,34 @@ class ModulesTest(unittest.TestCase):
         self.assertEqual(code_of_no_file(core, [Mapped(Range(0x7000, 0x7020), 0, "/bin/a")]), [])
         self.assertEqual(len(code_of_no_file(core, [Mapped(Range(0x7000, 0x7020), 0, "/memfd:jit (deleted)")])), 1)
         self.assertEqual(code_of_no_file(core_of(HAND), []), [])
+
+
+class TextTest(unittest.TestCase):
+    """What core.py writes of a core that doesn't say which files were mapped."""
+
+    def setUp(self) -> None:
+        self.folder = tempfile.TemporaryDirectory()
+        self.addCleanup(self.folder.cleanup)
+        self.core = pathlib.Path(self.folder.name) / "core"
+        self.core.write_bytes(HAND)
+
+    def written(self, *words: str) -> str:
+        """What core.py prints."""
+        tool = pathlib.Path(__file__).with_name("core.py")
+        done = subprocess.run([sys.executable, tool, sys.executable, self.core, *words], capture_output=True, text=True, check=True)
+        return done.stdout
+
+    def test_core_has_the_threads_and_their_stacks(self) -> None:
+        found = json.loads(self.written("--limit", "7"))
+        self.assertEqual((found["regions"], found["modules"], found["limit"]), ([], [], 7))
+        core = core_of(bytes.fromhex(found["core"]))
+        self.assertEqual([thread.note.text for thread in core.threads()], [bytes.fromhex(HAND_NOTE)])
+        self.assertEqual(core.bytes_of(Range(0x7000, 0x7100)), bytes.fromhex("0102030405060708"))
+
+    def test_file_has_what_is_printed(self) -> None:
+        file = self.core.with_name("core.json")
+        self.assertEqual(self.written(str(file)), "")
+        self.assertEqual(self.written(), file.read_text())
 
 
 class WordsTest(unittest.TestCase):
