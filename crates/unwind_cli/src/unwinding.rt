@@ -1,9 +1,9 @@
 // What is delivered, walked and folded of a snapshot, over indexes of frame tables where they pay.
-ghost use Rattle.std.specs.Prelude.{◌≡◌, ◌≢◌, ◌≤◌, ℕ, Bool, false, List, Err, IfOk, IfSome};
+ghost use Rattle.std.specs.Prelude.{◌≡◌, ◌≢◌, ◌≤◌, ℕ, Bool, false, Err, IfOk, IfSome};
 ghost use Rattle.unwind_arch.specs.declared.x86_64.Context.{Context as State};
 ghost use Rattle.stack_walks.specs.Lines.{GivesUnlessNoMemory, line_of};
 ghost use Rattle.stack_deliver.specs.StackDelivery.{delivery_through};
-ghost use Rattle.stack_steps.specs.Languages.{Languages};
+ghost use Rattle.stack_steps.specs.Languages.{languages_of};
 ghost use Rattle.stack_snapshot.specs.Content.{space_of};
 ghost use Rattle.stack_snapshot.specs.Sampled.{sampled_space};
 ghost use Rattle.unwind_cli.specs.Due.{delivery_from, fold_from, thrown_from, walk_from};
@@ -11,7 +11,7 @@ ghost use Rattle.unwind_cli.specs.Due.{delivery_from, fold_from, thrown_from, wa
 use folded_stacks::{FoldError, Folded, fold};
 use memory_image::MemoryImage;
 use stack_deliver::{
-    DeliverError, Delivery, FrameInfoKind, Module, ModuleTables, Space, Visited, deliver, throw,
+    DeliverError, Delivery, FrameInfoKind, Languages, Module, ModuleTables, Space, Visited, throw,
     walk,
 };
 use stack_snapshot::{SampledSnapshot, Snapshot, ThrownSnapshot};
@@ -40,11 +40,11 @@ const STACK_BY_TABLE: usize = 4;
 // A header has eight bytes for a description.
 const TABLE_BY_HEADER: usize = 4;
 
-// How often a frame is searched for where modules aren't prepared: by a walk, and by a delivery
-// that counts the frames, searches for a handler and goes to a frame's cleanup and on from there.
+// How often a frame is searched for at most where modules aren't prepared: by a walk, and by a
+// delivery that searches for a handler and goes to a frame's cleanup and on from there.
 const BY_WALK: usize = 1;
 
-const BY_DELIVERY: usize = 4;
+const BY_DELIVERY: usize = 3;
 
 /// How many bytes the frame table has that a module names, by what is mapped from there on or from
 /// its header on. 0 where it names neither.
@@ -112,87 +112,118 @@ fn searched_frames(space: &Space<'_>, snapshot: &Snapshot, searches: usize) -> u
     }
 }
 
-/// The lesser of two numbers of frames.
-fn few_frames(searched: u32, limit: u32) -> u32
-    ensures { result ≤ limit }
-{
-    if limit < searched { limit } else { searched }
-}
-
-/// Whether a walk has more states than it may have.
-fn meets_limit(walked: &Result<Visited, DeliverError>) -> bool
-    ensures { result ≡ false → walked.now ≢ Err DeliverError.FrameLimit }
-{
-    match walked {
-        Err(DeliverError::FrameLimit) => true,
-        _ => false,
-    }
-}
-
-/// The states of a snapshot's stack, where they are few, over its space as it is. `None` where they
-/// aren't, and of a stack of which none are searched for.
-fn few_states(
-    alloc: Global,
-    space: &Space<'_>,
-    snapshot: &Snapshot,
-    interrupted: bool,
-    searches: usize,
-) -> Option<Result<Visited, DeliverError>>
-    ensures { IfSome result (λ walked. GivesUnlessNoMemory walked
-        (line_of space.now snapshot.now.limit snapshot.now.start interrupted)) }
+/// How many frames of a snapshot's stack are searched for before modules are prepared, no more than
+/// its limit. `None` where none are.
+fn few_frames(space: &Space<'_>, snapshot: &Snapshot, searches: usize) -> Option<u32>
+    ensures { IfSome result (λ few. few ≤ snapshot.now.limit) }
 {
     let searched = searched_frames(space, snapshot, searches);
     if searched == 0 {
         return None;
     }
+    let limit = snapshot.limit();
+    Some(if limit < searched { limit } else { searched })
+}
+
+/// Whether more states are met than there may be, or more cleanups.
+fn meets_limit<T>(answer: &Result<T, DeliverError>) -> bool
+    ensures states { result ≡ false → answer.now ≢ Err DeliverError.FrameLimit }
+    ensures cleanups { result ≡ false → answer.now ≢ Err DeliverError.PassLimit }
+{
+    matches!(
+        answer,
+        Err(DeliverError::FrameLimit | DeliverError::PassLimit)
+    )
+}
+
+/// What is delivered of a snapshot by the rules of languages over a space, of at most `limit` states a
+/// pass and as many cleanups.
+fn delivery_within(
+    alloc: Global,
+    space: &Space<'_>,
+    snapshot: &Snapshot,
+    languages: &Languages<'_>,
+    limit: u32,
+) -> Result<Delivery, DeliverError>
+    ensures { GivesUnlessNoMemory result
+        (delivery_through (languages_of languages.now) space.now snapshot.now.start
+        snapshot.now.exception snapshot.now.resumes limit) }
+{
     let start = snapshot.start();
-    let few = few_frames(searched, snapshot.limit());
-    let walked = walk(alloc, space, &start, interrupted, few);
-    if meets_limit(&walked) {
+    throw(
+        alloc,
+        space,
+        languages,
+        &start,
+        snapshot.exception(),
+        snapshot.resumes(),
+        limit,
+    )
+}
+
+/// What is delivered of a snapshot where few states are met and few cleanups run, over its space as
+/// it is. `None` where they aren't few, and of a stack of which no frames are searched for.
+fn few_delivered(
+    alloc: Global,
+    space: &Space<'_>,
+    snapshot: &Snapshot,
+    languages: &Languages<'_>,
+) -> Option<Result<Delivery, DeliverError>>
+    ensures { IfSome result (λ delivered. GivesUnlessNoMemory delivered
+        (delivery_through (languages_of languages.now) space.now snapshot.now.start
+        snapshot.now.exception snapshot.now.resumes snapshot.now.limit)) }
+{
+    let few = few_frames(space, snapshot, BY_DELIVERY)?;
+    let delivered = delivery_within(alloc, space, snapshot, languages, few);
+    if meets_limit(&delivered) {
         return None;
     }
-    Some(walked)
+    Some(delivered)
 }
 
-/// The space of a snapshot over which an exception is delivered. Its modules are prepared, where
-/// they can be, but not for a stack of few frames beside which the tables are long. Nothing is
-/// answered otherwise over it.
-fn delivery_space(alloc: Global, snapshot: &Snapshot) -> Result<Space<'_>, AllocError>
-    ensures { IfOk result (λ space. (languages : Languages) (c : State) (exception : ℕ)
-        (resumes : List (ℕ × ℕ)) (limit : ℕ) →
-        delivery_through languages space c exception resumes limit ≡
-        delivery_through languages (space_of snapshot.now) c exception resumes limit) }
+/// What is delivered of a snapshot over a space whose modules are prepared first, where they can be.
+fn prepared_delivery(
+    alloc: Global,
+    space: &mut Space<'_>,
+    snapshot: &Snapshot,
+    languages: &Languages<'_>,
+) -> Result<Delivery, DeliverError>
+    ensures { GivesUnlessNoMemory result
+        (delivery_through (languages_of languages.now) space.old snapshot.now.start
+        snapshot.now.exception snapshot.now.resumes snapshot.now.limit) }
+{
+    space.prepare()?;
+    delivery_within(alloc, space, snapshot, languages, snapshot.limit())
+}
+
+/// What is delivered of a snapshot by the rules of languages. Modules are prepared where its stack is
+/// long and no shorter than the header of the start's module, where it is long beside their tables,
+/// or where many states are met or many cleanups run.
+fn snapshot_delivery(
+    alloc: Global,
+    snapshot: &Snapshot,
+    languages: &Languages<'_>,
+) -> Result<Delivery, DeliverError>
+    ensures { GivesUnlessNoMemory result
+        (delivery_through (languages_of languages.now) (space_of snapshot.now) snapshot.now.start
+        snapshot.now.exception snapshot.now.resumes snapshot.now.limit) }
 {
     let mut space = snapshot.space(alloc)?;
-    match few_states(alloc, &space, snapshot, false, BY_DELIVERY) {
-        Some(Err(DeliverError::NoMemory)) => Err(AllocError),
-        Some(_) => Ok(space),
-        None => {
-            space.prepare()?;
-            Ok(space)
-        }
+    if let Some(delivered) = few_delivered(alloc, &space, snapshot, languages) {
+        return delivered;
     }
+    prepared_delivery(alloc, &mut space, snapshot, languages)
 }
 
-/// What is delivered of a snapshot.
+/// What is delivered of a snapshot by the rule of Rust alone.
 ///
 /// # Errors
 ///
-/// `NoMemory` where memory ran out; else those of `deliver`.
+/// `NoMemory` where memory ran out; else those of `throw`.
 pub fn deliver_snapshot(alloc: Global, snapshot: &Snapshot) -> Result<Delivery, DeliverError>
     ensures { GivesUnlessNoMemory result (delivery_from snapshot.now) }
 {
-    let space = delivery_space(alloc, snapshot)?;
-    let start = snapshot.start();
-    deliver(
-        alloc,
-        &space,
-        &start,
-        snapshot.exception(),
-        snapshot.class(),
-        snapshot.resumes(),
-        snapshot.limit(),
-    )
+    snapshot_delivery(alloc, snapshot, &Languages::rust_alone())
 }
 
 /// What is delivered of a snapshot by the rules of the languages on its stack.
@@ -203,18 +234,27 @@ pub fn deliver_snapshot(alloc: Global, snapshot: &Snapshot) -> Result<Delivery, 
 pub fn throw_snapshot(alloc: Global, thrown: &ThrownSnapshot) -> Result<Delivery, DeliverError>
     ensures { GivesUnlessNoMemory result (thrown_from thrown.now) }
 {
-    let snapshot = thrown.snapshot();
-    let space = delivery_space(alloc, snapshot)?;
+    snapshot_delivery(alloc, thrown.snapshot(), &thrown.languages())
+}
+
+/// The states of a snapshot's stack, where they are few, over its space as it is. `None` where they
+/// aren't, and of a stack of which none are searched for.
+fn few_states(
+    alloc: Global,
+    space: &Space<'_>,
+    snapshot: &Snapshot,
+    interrupted: bool,
+) -> Option<Result<Visited, DeliverError>>
+    ensures { IfSome result (λ walked. GivesUnlessNoMemory walked
+        (line_of space.now snapshot.now.limit snapshot.now.start interrupted)) }
+{
+    let few = few_frames(space, snapshot, BY_WALK)?;
     let start = snapshot.start();
-    throw(
-        alloc,
-        &space,
-        &thrown.languages(),
-        &start,
-        snapshot.exception(),
-        snapshot.resumes(),
-        snapshot.limit(),
-    )
+    let walked = walk(alloc, space, &start, interrupted, few);
+    if meets_limit(&walked) {
+        return None;
+    }
+    Some(walked)
 }
 
 /// The states of a stack over a space whose modules are prepared first, where they can be.
@@ -242,7 +282,7 @@ pub fn walk_snapshot(alloc: Global, snapshot: &Snapshot) -> Result<Visited, Deli
 {
     let mut space = snapshot.space(alloc)?;
     let interrupted = snapshot.interrupted();
-    if let Some(walked) = few_states(alloc, &space, snapshot, interrupted, BY_WALK) {
+    if let Some(walked) = few_states(alloc, &space, snapshot, interrupted) {
         return walked;
     }
     let start = snapshot.start();

@@ -1,4 +1,4 @@
-use Rattle.std.proofs.Common.{◌≡◌, Result, ◌∙◌, refl, subst}
+use Rattle.std.proofs.Common.{◌≡◌, Result, refl, subst}
 use Rattle.stack_steps.specs.declared.error.DeliverError.{DeliverError}
 use Rattle.stack_steps.specs.Languages.{languages_of}
 use Rattle.stack_walks.specs.Lines.{GivesUnlessNoMemory}
@@ -10,10 +10,6 @@ use Rattle.unwind_cli.proofs.unwinding.throw_snapshot.Goals as goal
 pub returns : goal.returns
 unfolding thrown_from
 returns c =
-    let s = c.args.thrown.now in
-    let n = c.snapshot-snapshot.result.now in
-    let spoken = languages_of c.languages.result in
-    let same : delivery_through spoken (space_of n) c.start-start.result c.exception.result c.resumes.result.now c.limit.result ≡ thrown_from s =
-    rw (c.start-start.ensures, c.exception.ensures, c.resumes.ensures, c.limit.ensures, c.languages.ensures, c.snapshot-snapshot.ensures) refl in
-    let is = c.in_ok-space.ensures spoken c.start-start.result c.exception.result c.resumes.result.now c.limit.result ∙ same in
-    subst (λ (due : Result DeliveryValue DeliverError). GivesUnlessNoMemory c.throw.result due) is c.throw.ensures.exact
+    let n = c.snapshot.result.now in
+    let same : delivery_through (languages_of c.languages.result) (space_of n) n.start n.exception n.resumes n.limit ≡ thrown_from c.args.thrown.now = rw (c.languages.ensures, c.snapshot.ensures) refl in
+    subst (λ (due : Result DeliveryValue DeliverError). GivesUnlessNoMemory c.snapshot_delivery.result due) same c.snapshot_delivery.ensures
