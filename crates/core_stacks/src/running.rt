@@ -262,9 +262,9 @@ fn decide<F: Files>(alloc: Global, words: &Words, files: &F) -> Answer
 
 /// Writes the walks of all threads of the core file that the words name to the output, or why there are none.
 ///
-/// Of the core the front is read, and a window of memory for each thread's stack; where a walk over
-/// these meets something that isn't there, the core is read whole, but for what follows its
-/// 4,294,967,297th byte. The answer is the same. Of each file that it says was mapped the front is read,
+/// Of the core the front is read, and a window of memory for each thread's stack; where a walk leaves
+/// these, larger ones. Where that doesn't suffice, as where the front has more than 64 MiB, the core is
+/// read whole, but for what follows its 4,294,967,297th byte. The answer is the same. Of each file that it says was mapped the front is read,
 /// and the segment that has its frame table; for names also the symbols of the files in which frames
 /// stand. Running out of memory is `Memory`.
 pub fn run<F: Files, O: Sink>(alloc: Global, words: &Words, files: &F, output: &mut O) -> Status

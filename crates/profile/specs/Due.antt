@@ -21,7 +21,7 @@ use Rattle.profile.specs.Lines.{refused_line, usage_line}
 
 -- ---- what the words ask for
 
--- how the samples are told, and the file of the tables
+-- how the samples are written, and the file of the tables
 pub record RequestValue : Type 0 where
   pub form : Form
   pub path : List ℕ

@@ -5,7 +5,7 @@ ghost use Rattle.profile.specs.Due.{request_in, request_named, request_value, re
 
 use command_ends::Words;
 
-/// How the samples are told.
+/// How the samples are written.
 #[derive(Clone, Copy, Debug, PartialEq, Eq)]
 pub enum Form {
     /// Each distinct stack once, with the number of the samples that show it.
@@ -17,13 +17,13 @@ pub enum Form {
 /// What the words ask for.
 #[derive(Clone, Copy)]
 pub struct Request<'w> {
-    /// How the samples are told.
+    /// How the samples are written.
     pub form: Form,
     /// The file of the tables.
     pub path: &'w str,
 }
 
-/// The file of the tables, which is the last word, and how the samples are told.
+/// The file of the tables, which is the last word, and how the samples are written.
 pub fn request_of(words: &Words) -> Option<Request<'_>>
     ensures { option_map request_value result ≡ request_in words.now }
 {

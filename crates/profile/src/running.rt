@@ -36,8 +36,8 @@ use stack_report::Report;
 use stack_snapshot::{Origins, Snapshot, read_named_snapshot};
 use std::alloc::{AllocError, Global};
 
-/// The space of a snapshot, in which its modules are prepared where they can be. What is told of
-/// samples over it is the same.
+/// The space of a snapshot, in which its modules are prepared where they can be. The answer to samples
+/// over it is the same.
 fn prepared_space(alloc: Global, snapshot: &Snapshot) -> Result<Space<'_>, AllocError>
     ensures { IfOk result (λ space. (origins : List OriginValue) (limit : ℕ) (form : Form)
         (records : List (Result RecordValue PerfError)) →
@@ -199,7 +199,7 @@ fn source_answer<I: Source>(alloc: Global, form: Form, tables: &[u8], input: &mu
     }
 }
 
-/// The answer to all bytes of the source. A fault after those that tell it is answered in its place.
+/// The answer to all bytes of the source. A fault after those that decide it is answered in its place.
 fn input_answer<I: Source>(alloc: Global, form: Form, tables: &[u8], input: &mut I) -> Answer
     ensures answer { IfSome (I.left input.old) (λ bytes.
         IsReadyOrFailed (bytes_due tables.now form bytes) result.status result.text) }
@@ -283,7 +283,7 @@ pub fn run<I: Source, O: Sink>(
         (after : List ℕ) × Tells (verdict Status.Done
         (script_text t earlier ++ known_lines t earlier sample s callers is ++ after)) result
         (O.holds output.old) (O.holds output.new)) }
-    // Whatever the source tells, words that name no file are answered so, and no others.
+    // Whatever the source gives, words that name no file are answered so, and no others.
     ensures usage { ComesExactly result Status.Usage (request_in words.now ≡ None) }
     ensures usage_told { request_in words.now ≡ None →
         Tells (verdict Status.Usage usage_line) result (O.holds output.old) (O.holds output.new) }

@@ -1,4 +1,4 @@
--- What is told of a stack, and the words for why there is no more.
+-- What a profile says of a stack, and the words for why there is no more.
 use Rattle.std.specs.Prelude.{ℕ, Bool, true, false, List, map, Option, Some, None, codes}
 use Rattle.unwind_arch.specs.declared.x86_64.Context.{Context}
 use Rattle.sampled_profile.specs.declared.stack_end.StackEnd.{StackEnd}
@@ -19,14 +19,14 @@ abbrev pub popped_word : Bool → Option (List ℕ)
 popped_word false = None
 popped_word true = Some (codes "[popped]")
 
--- the return addresses of a stack's frames, the innermost first, whose own is that at which the thread was interrupted; why it is told
+-- the return addresses of a stack's frames, the innermost first, whose own is that at which the thread was interrupted; why it goes
 -- no further; and whether popped registers were kept
 pub record StackWalk : Type 0 where
   pub returns : List ℕ
   pub end : StackEnd
   pub popped : Bool
 
--- What a profile tells of a stack: where its frames are by their functions, the innermost first; why it is told no
+-- What a profile says of a stack: where its frames are by their functions, the innermost first; why it goes no
 -- further; and whether popped registers were kept.
 pub record StackFrames : Type 0 where
   pub places : List ℕ

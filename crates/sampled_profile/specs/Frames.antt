@@ -9,7 +9,7 @@ use Rattle.sampled_profile.specs.Ends.{StackFrames, StackWalk}
 
 -- ---- the addresses asked
 
--- Whether a frame is a signal's, so that its caller was interrupted where it stands. Frame tables of ELF modules tell
+-- Whether a frame is a signal's, so that its caller was interrupted where it stands. Frame tables of ELF modules say
 -- that; the caller of a frame that none describes stands after a call.
 abbrev pub is_signal : Option DescribedFunction → Bool
 is_signal None = false
@@ -30,7 +30,7 @@ addresses_of space interrupted (ra ∷ returns) =
 
 -- ---- by their functions
 
--- where a frame is told to be, by the address asked of it: where the function that is described there begins, or that
+-- where a frame is by its function, by the address asked of it: where the function that is described there begins, or that
 -- address where none is described
 abbrev pub frame_place : ℕ → Option DescribedFunction → ℕ
 frame_place a None = a
@@ -42,6 +42,6 @@ place_in space a = frame_place a (described_function space a)
 abbrev pub places_of : SpaceValue → Bool → List ℕ → List ℕ
 places_of space interrupted returns = map (place_in space) (addresses_of space interrupted returns)
 
--- what a profile tells of a walk, at whose first state the thread was interrupted
+-- what a profile says of a walk, at whose first state the thread was interrupted
 abbrev pub frames_of : SpaceValue → StackWalk → StackFrames
 frames_of space w = record { places = places_of space true w.returns; end = w.end; popped = w.popped }

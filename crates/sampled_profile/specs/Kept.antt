@@ -37,7 +37,7 @@ pub record IsTally (t : Tables) (tally : Tally) (earlier : List RecordValue) : T
   pub total : total_of tally.stacks.counts.entries ≡ length (stacks_of t earlier)
   pub places : tally.room.limit ≡ t.limit
 
--- after all records, by whatever files frames are told
+-- after all records, by whatever files frames are named
 pub record IsCounted (tables_by : List OriginValue → Tables) (table : StackTable) (read : List RecordValue) : Type 0 where
   pub shows : (origins : List OriginValue) → ShowsStacks origins table.counts.entries (stacks_of (tables_by origins) read)
   pub few : total_of table.counts.entries < 2 ^ 64

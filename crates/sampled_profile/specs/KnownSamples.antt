@@ -1,4 +1,4 @@
--- What is told of a sample whose thread's stack is known: of each of its frames it is known how the caller's state follows, in an ELF
+-- What is written of a sample whose thread's stack is known: of each of its frames it is known how the caller's state follows, in an ELF
 -- module by facts that its tables say, at any address, and through a signal's frame to the state that was interrupted.
 use Rattle.std.specs.Prelude.{◌≡◌, ℕ, true, false, List, ◌∷◌, ◌++◌, map, Ok}
 use Rattle.unwind_definitions.specs.State.{State}

@@ -1,4 +1,4 @@
--- The names of threads and of their processes, as the records of a perf.data file tell them.
+-- The names of threads and of their processes, as the records of a perf.data file say them.
 use Rattle.std.specs.Prelude.{ℕ, zero, suc, ◌==◌, List, [], ◌∷◌, Option, Some, None, if◌then◌else◌}
 use Rattle.perf_data.specs.declared.sample.Thread.{Thread}
 use Rattle.perf_data.specs.Records.{RecordValue, Sampled, Mapped, Named, Forked, Exited, OtherKind}
@@ -29,7 +29,7 @@ abbrev pub parent_of : List RecordValue → ℕ → Option ℕ
 parent_of [] thread = None
 parent_of (r ∷ earlier) thread = parent_after r (parent_of earlier) thread
 
--- A thread's own name or, where it has none, that of the thread that started it, and so on, of so many threads. perf writes the
+-- A thread's own name or, where it has none, that of the thread that started it, and so on, of a number of threads. perf writes the
 -- records of several processors one after another, so that a thread's start may stand before its parent's name.
 abbrev pub name_by : Option (List ℕ) → Option ℕ → (ℕ → Option (List ℕ)) → Option (List ℕ)
 name_by (Some name) parent upwards = Some name
@@ -49,7 +49,7 @@ abbrev pub name_of : List RecordValue → Option Thread → Option (List ℕ)
 name_of earlier None = None
 name_of earlier (Some t) = name_in earlier t.tid
 
--- Of its process: the name of the thread that has the process's number or, where no record tells that, the thread's own.
+-- Of its process: the name of the thread that has the process's number or, where no record says that, the thread's own.
 abbrev pub first_name : Option (List ℕ) → Option (List ℕ) → Option (List ℕ)
 first_name (Some name) other = Some name
 first_name None other = other

@@ -1,6 +1,6 @@
 -- Samples one after another, in the text form of `perf script`, which collapsers and viewers of profiles read: a line with
 -- the name of the thread, its process and its own number, and when the sample was taken; a line that says that popped
--- registers were kept; a line for each frame, the innermost first; one that says why the stack is told no further; and an
+-- registers were kept; a line for each frame, the innermost first; one that says why the stack goes no further; and an
 -- empty line.
 use Rattle.std.specs.Prelude.{ℕ, zero, suc, ◌/◌, ◌%◌, ◌^◌, false, true, List, [], ◌∷◌, ◌++◌, Option, Some, None, Result, codes}
 use Rattle.std.specs.Fmt.{decimal, digit_glyph}
@@ -22,7 +22,7 @@ use Rattle.sampled_profile.specs.Walks.{walk_of}
 
 -- ---- the first line
 
--- so many decimal digits, from the highest down
+-- the last decimal digits of a number, from the highest down
 abbrev pub decimals : ℕ → ℕ → List ℕ
 decimals zero n = []
 decimals (suc k) n = decimals k (n / 10) ++ digit_glyph false (n % 10) ∷ []
@@ -58,7 +58,7 @@ abbrev pub frame_lines : List OriginValue → List ℕ → List ℕ
 frame_lines origins [] = []
 frame_lines origins (a ∷ addresses) = place_line origins a ++ frame_lines origins addresses
 
--- ---- what is told beside the frames
+-- ---- what is written beside the frames
 
 -- a word in a frame's place, at the address 0
 abbrev pub word_line : List ℕ → List ℕ
@@ -70,7 +70,7 @@ mark_line (Some word) = word_line word
 
 -- ---- all of it
 
--- the frames of a walk over a space, and what is told beside them
+-- the frames of a walk over a space, and what is written beside them
 abbrev pub walk_lines : SpaceValue → List OriginValue → StackWalk → List ℕ
 walk_lines space origins w =
     mark_line (popped_word w.popped)

@@ -1,4 +1,4 @@
--- What a reading of a profile from a source tells, and what is due of its records.
+-- What a reading of a profile from a source answers, and what is due of its records.
 use Rattle.std.specs.Prelude.{◌≡◌, ◌⊎◌, ℕ, List, [], ◌∷◌, Option, Result, Ok, Err, IfSome, IsOk}
 use Rattle.perf_data.specs.declared.errors.PerfError.{PerfError}
 use Rattle.perf_data.specs.declared.errors.PerfError.TheVariants as errors

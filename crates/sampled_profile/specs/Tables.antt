@@ -10,7 +10,7 @@ use Rattle.sampled_profile.specs.CountViews.{counted_times}
 use Rattle.sampled_profile.specs.Ends.{StackFrames}
 use Rattle.sampled_profile.specs.Texts.{frame_text, stack_text}
 
--- what is told of a stack
+-- what is said of a stack
 abbrev pub shown_name : SampledStack → Option (List ℕ)
 shown_name stack = if stack.named then Some stack.name.items else None
 
@@ -31,7 +31,7 @@ weight_in origins text e = cond (is_same text (shown_text origins e.0)) e.1 0
 abbrev pub shown_by : List OriginValue → List ℕ → List (SampledStack × ℕ) → ℕ
 shown_by origins text entries = sum_by (weight_in origins text) entries
 
--- a sample more that shows a stack, by whatever files its frames are told
+-- a sample more that shows a stack, by whatever files its frames are named
 pub record CountsOneMore (stack : SampledStack) (old new : List (SampledStack × ℕ)) : Type 0 where
   pub total : total_of new ≡ total_of old + 1
   pub shown : (origins : List OriginValue) (text : List ℕ) → shown_by origins text new ≡ shown_by origins text old + weight_in origins text (stack, 1)

@@ -1,4 +1,4 @@
--- The text of a stack as collapsers of profiles write it: the name of the process, why the stack is told no further, its
+-- The text of a stack as collapsers of profiles write it: the name of the process, why the stack goes no further, its
 -- frames, the outermost first, and whether popped registers were kept, with a semicolon before each part but the first.
 use Rattle.std.specs.Prelude.{ℕ, ◌+◌, ◌-◌, ◌%◌, ◌^◌, ◌==◌, ◌||◌, List, [], ◌∷◌, ◌++◌, map, Option, Some, None, codes, nat_le, if◌then◌else◌}
 use Rattle.stack_snapshot.specs.Origins.{OriginValue, origin_at, file_name}
@@ -28,7 +28,7 @@ abbrev pub place_text : Option OriginValue → ℕ → List ℕ
 place_text None a = hexadecimal a
 place_text (Some o) a = written_name (file_name o.path) ++ codes "+" ++ hexadecimal (offset_in o a)
 
--- A frame: where it is told to be, by the file that holds the place.
+-- A frame: where it is, by the file that holds the place.
 unfoldable pub frame_text : List OriginValue → ℕ → List ℕ
 frame_text origins a = codes ";" ++ place_text (origin_at origins a) a
 

@@ -1,4 +1,4 @@
--- What a reading of a profile tells.
+-- What a reading of a profile answers.
 use Rattle.std.specs.Prelude.{◌≡◌, Result, Ok, Err}
 use Rattle.perf_data.specs.declared.errors.PerfError.{PerfError}
 use Rattle.sampled_profile.specs.declared.profile.ProfileError.{ProfileError}

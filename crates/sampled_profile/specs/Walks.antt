@@ -40,21 +40,21 @@ end_after c (Err e) outer = end_for e
 end_after c (Ok None) outer = end_at c
 end_after c (Ok (Some s)) outer = outer s.context s.signal
 
--- from a context outwards, of which so many are told
+-- from a context outwards, of which at most a number are said
 abbrev pub end_of : SpaceValue → ℕ → Context → Bool → StackEnd
 end_of space zero c interrupted = Limit
 end_of space (suc room) c interrupted = end_after c (step_of space c interrupted) (end_of space room)
 
--- the end that the reason of a walk tells
+-- the end that the reason of a walk gives
 abbrev pub end_told : EndReason → StackEnd
 end_told reason.Outermost = Outermost
 end_told (reason.Refused a e) = end_for e
 end_told reason.Limit = Limit
 end_told _ = NoTable
 
--- ---- what is told of it
+-- ---- what is said of it
 
--- states with what is told beside them
+-- states with what is said beside them
 abbrev pub marked_walk : List Context → WalkMarks → StackWalk
 marked_walk states marks = record { returns = returns_of states; end = marks.end; popped = marks.popped }
 

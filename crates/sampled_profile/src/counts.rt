@@ -37,7 +37,7 @@ impl StackCounts {
         }
     }
 
-    /// Counts so many samples more that show a stack.
+    /// Counts a number of samples more that show a stack.
     ///
     /// # Errors
     ///

@@ -21,9 +21,9 @@ pub(crate) struct KeptText {
     end: usize,
 }
 
-/// The texts of frames by the addresses that they are told to be at: the last one of each place.
+/// The texts of frames by the addresses of their places: the last one for each slot.
 ///
-/// Contracts see the files by which frames are told.
+/// Contracts see the files by which frames are named.
 #[derive(Drop)]
 pub(crate) struct FrameTexts<'o> {
     origins: &'o Origins,

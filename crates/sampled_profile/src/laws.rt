@@ -11,7 +11,7 @@ ghost use Rattle.sampled_profile.specs.Profiles.{profile_of, tables};
 ghost use Rattle.sampled_profile.specs.Scripts.{script_of};
 ghost use Rattle.sampled_profile.specs.Walks.{end_of, end_told};
 
-/// What a profile tells doesn't depend on which modules of a space are prepared.
+/// What a profile says doesn't depend on which modules of a space are prepared.
 pub fn profiles_stay_as_modules_are_prepared()
     ensures { (space : SpaceValue) (added : List Added) (origins : List OriginValue) (limit : ℕ)
         (records : List (Result RecordValue PerfError)) →
@@ -27,7 +27,7 @@ pub fn scripts_stay_as_modules_are_prepared()
         script_of (tables space origins limit) records }
 {}
 
-/// The end of a stack is the one that the reason of its walk tells.
+/// The end of a stack is the one that the reason of its walk gives.
 pub fn a_reason_tells_the_end()
     ensures { (space : SpaceValue) (why : EndReason) (limit : ℕ) (c : Context) (interrupted : Bool) →
         ComesTo why space limit c interrupted →

@@ -1,6 +1,6 @@
 //! The stacks of a profile: each sample of a perf.data file is walked over the tables of its process
-//! and the copy of its thread's stack, and each distinct stack of functions is told once, with the
-//! number of the samples that show it. Or the samples are told one after another, in the text form of
+//! and the copy of its thread's stack, and each distinct stack of functions is written once, with the
+//! number of the samples that show it. Or the samples are written one after another, in the text form of
 //! `perf script`.
 //!
 //! Nothing of the tables is copied for a sample, and in a profile no memory is taken for one whose

@@ -21,7 +21,7 @@ use std::alloc::AllocError;
 
 const NANOSECONDS: u64 = 1_000_000_000;
 
-/// Puts so many decimal digits of a number last, from the highest down.
+/// Puts the last decimal digits of a number, as many as `count` says, from the highest down.
 fn put_decimals(report: &mut Report, count: u32, number: u64) -> Result<(), AllocError>
     ensures { OnOk result (report.new ≡ report.old ++ decimals count number) }
 {

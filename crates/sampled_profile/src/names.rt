@@ -50,7 +50,7 @@ impl ThreadNames {
         self.parents.get(&thread).copied()
     }
 
-    /// The name of a thread or of one that it comes from, of at most so many.
+    /// The name of a thread or of one that it comes from, among the first `most` of them.
     fn name_within(&self, most: u32, thread: u32) -> Option<&[u8]>
         ensures { option_map (λ name. name.now) result ≡ name_kept self.now most thread }
     {
@@ -118,7 +118,7 @@ pub(crate) fn name_of<'n>(names: &'n ThreadNames, sample: &Sample<'_>) -> Option
 }
 
 /// The name of the process of a sample's thread: that of the thread which has the process's number or,
-/// where no record tells that, the thread's own.
+/// where no record says that, the thread's own.
 pub(crate) fn process_name_of<'n>(names: &'n ThreadNames, sample: &Sample<'_>) -> Option<&'n [u8]>
     ensures { (earlier : List RecordValue) → Knows names.now earlier →
         option_map (λ name. name.now) result ≡

@@ -176,7 +176,7 @@ fn tally_records(
 ///
 /// A sample is walked over the modules of the space from its registers on, over the space's memory
 /// and the copy of its stack, at most `limit` states. Its text has the name of its process, which the
-/// records before it tell, then why it is told no further, its frames, the outermost first, and a mark
+/// records before it say, then why it goes no further, its frames, the outermost first, and a mark
 /// where popped registers were kept. A frame is where its function begins, by the files of `origins`,
 /// so that samples of the same functions show one stack where their processes' names, ends and marks
 /// are the same, too; where no frame table of an ELF module describes the address asked, it is that

@@ -1,9 +1,9 @@
-// Why a stack is told no further, and the words for what is told beside its frames.
+// Why a stack goes no further, and the words for what is written beside its frames.
 ghost use Rattle.std.specs.Prelude.{◌≡◌};
 ghost use Rattle.std.specs.Option.{option_map};
 ghost use Rattle.sampled_profile.specs.Ends.{end_word, popped_word};
 
-/// Why a stack is told no further, or why none is told.
+/// Why a stack goes no further, or why there is none.
 #[derive(Clone, Copy, Debug, PartialEq, Eq, Hash)]
 pub enum StackEnd {
     /// The last frame returns to 0.
@@ -14,7 +14,7 @@ pub enum StackEnd {
     Cut,
     /// The step has another fault.
     Refused,
-    /// The most frames are told.
+    /// It has as many frames as are written at most.
     Limit,
     /// The sample has no registers.
     NoRegisters,

@@ -14,7 +14,7 @@ use stack_steps::DescribedFunction;
 use std::alloc::{AllocError, Global};
 use std::collections::HashMap;
 
-/// Where a frame is told to be, by the address asked of it.
+/// Where a frame is by its function, by the address asked of it.
 fn frame_place(asked: u64, function: Option<DescribedFunction>) -> u64
     ensures { result ≡ frame_place asked function }
 {

@@ -63,7 +63,7 @@ fn end_section<I: Source>(reader: &mut RecordReader, input: &mut I) -> Result<()
     }
 }
 
-/// Why nothing is told of a file one of whose records can't be read: for this error, unless the
+/// Why there is no answer to a file one of whose records can't be read: for this error, unless the
 /// section of the records passes the source's end.
 fn cause_of<I: Source>(reader: &mut RecordReader, input: &mut I, error: PerfError) -> StreamError
     ensures cause { IsCause result error (due_left reader.old (I.left input.old)) }

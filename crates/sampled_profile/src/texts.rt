@@ -122,7 +122,7 @@ fn put_word(report: &mut Report, word: Option<&'static str>) -> Result<(), Alloc
     }
 }
 
-/// Puts last why a stack is told no further.
+/// Puts last why a stack goes no further.
 pub(crate) fn put_end(report: &mut Report, end: StackEnd) -> Result<(), AllocError>
     ensures { OnOk result (report.new ≡ report.old ++ word_text (end_word end)) }
 {

@@ -16,7 +16,7 @@ use unwind_arch::x86_64::{Context, RSP};
 // the form of the registers of a program of 64 bits
 const ABI_64: u64 = 2;
 
-/// What is told of a walk beside its states.
+/// What is said of a walk beside its states.
 #[derive(Clone, Copy)]
 pub(crate) struct WalkMarks {
     /// Why there are no more.
@@ -25,7 +25,7 @@ pub(crate) struct WalkMarks {
     pub(crate) popped: bool,
 }
 
-/// The end that the reason of a walk tells.
+/// The end that the reason of a walk gives.
 fn end_told(why: EndReason) -> StackEnd
     ensures { result ≡ end_told why }
 {
@@ -108,7 +108,7 @@ fn start_of(registers: Option<UserRegisters<'_>>) -> Result<Context, StackEnd>
 
 /// Walks a sample over the modules of a cache's space, over the space's memory and the sample's copy of
 /// its stack, by the rows that the cache keeps. The states stand in the room, and none where the sample
-/// tells no start.
+/// has no start.
 pub(crate) fn walk_sample(
     cache: &mut FrameCache<'_, '_>,
     limit: u32,
