@@ -5,22 +5,23 @@ use Rattle.perf_data.specs.declared.errors.PerfError.{PerfError}
 use Rattle.perf_data.specs.declared.errors.PerfError.TheVariants as errors
 use Rattle.perf_data.specs.declared.layout.Layout.{Layout}
 use Rattle.perf_data.specs.FileHeader.{is_foreign, is_pipe, has_file_header, attribute_size, section, attributes_place, records_place, is_unfinished}
-use Rattle.perf_data.specs.Layouts.{first_layout, share_layout}
+use Rattle.perf_data.specs.Layouts.{first_layout, is_of_other_machine, share_layout}
 use Rattle.perf_data.specs.FileValue.{PerfValue, layout_shared, layout_among, shared_layout, records_after, with_records, perf_of, HasHeader}
 
 -- ---- the errors of the attributes
 
 abbrev IsOfAttributes : Result Layout PerfError → Type 0
 IsOfAttributes (Ok layout) = Unit {0}
-IsOfAttributes (Err e) = (e ≡ errors.Attributes) ⊎ (e ≡ errors.Layouts)
+IsOfAttributes (Err e) = (e ≡ errors.Attributes) ⊎ ((e ≡ errors.Layouts) ⊎ (e ≡ errors.Machine))
 
 shared_fault : (size : ℕ) (attributes : List ℕ) (first : Option Layout) → IsOfAttributes (layout_shared size attributes first)
 shared_fault size attributes None = inl refl
-shared_fault size attributes (Some layout) = go (share_layout layout size attributes)
+shared_fault size attributes (Some layout) = go (share_layout layout size attributes) (is_of_other_machine layout)
   where
-    go : (shared : Bool) → IsOfAttributes (cond shared (Ok layout) (Err errors.Layouts))
-    go true = tt
-    go false = inr refl
+    go : (shared other : Bool) → IsOfAttributes (cond shared (cond other (Err errors.Machine) (Ok layout)) (Err errors.Layouts))
+    go true false = tt
+    go true true = inr (inr refl)
+    go false other = inr (inl refl)
 
 among_fault : (size : ℕ) (o : Option (ℕ × List ℕ)) → IsOfAttributes (layout_among size o)
 among_fault size None = inl refl
@@ -30,7 +31,7 @@ among_fault size (Some p) = shared_fault size p.1 (first_layout size p.1)
 
 abbrev IsBefore : Result Layout PerfError → Type 0
 IsBefore (Ok layout) = Unit {0}
-IsBefore (Err e) = (e ≡ errors.Unfinished) ⊎ ((e ≡ errors.Attributes) ⊎ (e ≡ errors.Layouts))
+IsBefore (Err e) = (e ≡ errors.Unfinished) ⊎ ((e ≡ errors.Attributes) ⊎ ((e ≡ errors.Layouts) ⊎ (e ≡ errors.Machine)))
 
 abbrev ended : Bool → Result Layout PerfError → Result Layout PerfError
 ended unfinished layout = cond unfinished (Err errors.Unfinished) layout
@@ -48,7 +49,8 @@ ended_fault : (unfinished : Bool) (layout : Result Layout PerfError) → IsOfAtt
 ended_fault true layout named = (λ e. refl, λ q. refl)
 ended_fault false (Ok layout) named = (λ e. absurd cc, λ q. absurd cc)
 ended_fault false (Err x) (inl is) = (λ e. absurd cc, λ q. absurd cc)
-ended_fault false (Err x) (inr is) = (λ e. absurd cc, λ q. absurd cc)
+ended_fault false (Err x) (inr (inl is)) = (λ e. absurd cc, λ q. absurd cc)
+ended_fault false (Err x) (inr (inr is)) = (λ e. absurd cc, λ q. absurd cc)
 
 layout_unfinished : (bytes : List ℕ) → (shared_layout bytes ≡ Err errors.Unfinished) ↔ IsTrue (is_unfinished bytes)
 unfolding shared_layout
@@ -71,7 +73,8 @@ foreign_fault false false true (Ok layout) None named = (λ e. absurd cc, λ q. 
 foreign_fault false false true (Ok layout) (Some p) named = (λ e. absurd cc, λ q. absurd cc)
 foreign_fault false false true (Err x) o (inl is) = (λ e. absurd cc, λ q. absurd cc)
 foreign_fault false false true (Err x) o (inr (inl is)) = (λ e. absurd cc, λ q. absurd cc)
-foreign_fault false false true (Err x) o (inr (inr is)) = (λ e. absurd cc, λ q. absurd cc)
+foreign_fault false false true (Err x) o (inr (inr (inl is))) = (λ e. absurd cc, λ q. absurd cc)
+foreign_fault false false true (Err x) o (inr (inr (inr is))) = (λ e. absurd cc, λ q. absurd cc)
 
 pipe_fault : (foreign pipe header : Bool) (layout : Result Layout PerfError) (o : Option (ℕ × List ℕ)) → IsBefore layout → (answer foreign pipe header layout o ≡ Err errors.Pipe) ↔ ((foreign ≡ false) × (pipe ≡ true))
 pipe_fault true pipe header layout o named = (λ e. absurd cc, λ q. let r = q.0 in absurd cc)
@@ -81,7 +84,8 @@ pipe_fault false false true (Ok layout) None named = (λ e. absurd cc, λ q. let
 pipe_fault false false true (Ok layout) (Some p) named = (λ e. absurd cc, λ q. let r = q.1 in absurd cc)
 pipe_fault false false true (Err x) o (inl is) = (λ e. absurd cc, λ q. let r = q.1 in absurd cc)
 pipe_fault false false true (Err x) o (inr (inl is)) = (λ e. absurd cc, λ q. let r = q.1 in absurd cc)
-pipe_fault false false true (Err x) o (inr (inr is)) = (λ e. absurd cc, λ q. let r = q.1 in absurd cc)
+pipe_fault false false true (Err x) o (inr (inr (inl is))) = (λ e. absurd cc, λ q. let r = q.1 in absurd cc)
+pipe_fault false false true (Err x) o (inr (inr (inr is))) = (λ e. absurd cc, λ q. let r = q.1 in absurd cc)
 
 header_fault : (foreign pipe header : Bool) (layout : Result Layout PerfError) (o : Option (ℕ × List ℕ)) → IsBefore layout → (answer foreign pipe header layout o ≡ Err errors.Header) ↔ ((foreign ≡ false) × (pipe ≡ false) × (header ≡ false))
 header_fault true pipe header layout o named = (λ e. absurd cc, λ q. let r = q.0 in absurd cc)
@@ -91,7 +95,8 @@ header_fault false false true (Ok layout) None named = (λ e. absurd cc, λ q. l
 header_fault false false true (Ok layout) (Some p) named = (λ e. absurd cc, λ q. let r = q.2 in absurd cc)
 header_fault false false true (Err x) o (inl is) = (λ e. absurd cc, λ q. let r = q.2 in absurd cc)
 header_fault false false true (Err x) o (inr (inl is)) = (λ e. absurd cc, λ q. let r = q.2 in absurd cc)
-header_fault false false true (Err x) o (inr (inr is)) = (λ e. absurd cc, λ q. let r = q.2 in absurd cc)
+header_fault false false true (Err x) o (inr (inr (inl is))) = (λ e. absurd cc, λ q. let r = q.2 in absurd cc)
+header_fault false false true (Err x) o (inr (inr (inr is))) = (λ e. absurd cc, λ q. let r = q.2 in absurd cc)
 
 unfinished_fault : (foreign pipe header : Bool) (layout : Result Layout PerfError) (o : Option (ℕ × List ℕ)) → IsBefore layout → (answer foreign pipe header layout o ≡ Err errors.Unfinished) ↔ (((foreign ≡ false) × (pipe ≡ false) × (header ≡ true)) × (layout ≡ Err errors.Unfinished))
 unfinished_fault true pipe header layout o named = (λ e. absurd cc, λ q. let r = q.0.0 in absurd cc)
@@ -117,6 +122,14 @@ layouts_fault false false true (Ok layout) None named = (λ e. absurd cc, λ q. 
 layouts_fault false false true (Ok layout) (Some p) named = (λ e. absurd cc, λ q. let r = q.1 in absurd cc)
 layouts_fault false false true (Err x) o named = (λ e. ((refl, refl, refl), cc), λ q. let r = q.1 in cc)
 
+machine_fault : (foreign pipe header : Bool) (layout : Result Layout PerfError) (o : Option (ℕ × List ℕ)) → IsBefore layout → (answer foreign pipe header layout o ≡ Err errors.Machine) ↔ (((foreign ≡ false) × (pipe ≡ false) × (header ≡ true)) × (layout ≡ Err errors.Machine))
+machine_fault true pipe header layout o named = (λ e. absurd cc, λ q. let r = q.0.0 in absurd cc)
+machine_fault false true header layout o named = (λ e. absurd cc, λ q. let r = q.0.1 in absurd cc)
+machine_fault false false false layout o named = (λ e. absurd cc, λ q. let r = q.0.2 in absurd cc)
+machine_fault false false true (Ok layout) None named = (λ e. absurd cc, λ q. let r = q.1 in absurd cc)
+machine_fault false false true (Ok layout) (Some p) named = (λ e. absurd cc, λ q. let r = q.1 in absurd cc)
+machine_fault false false true (Err x) o named = (λ e. ((refl, refl, refl), cc), λ q. let r = q.1 in cc)
+
 records_fault : (foreign pipe header : Bool) (layout : Result Layout PerfError) (o : Option (ℕ × List ℕ)) → IsBefore layout → (answer foreign pipe header layout o ≡ Err errors.Records) ↔ (((foreign ≡ false) × (pipe ≡ false) × (header ≡ true)) × ((l : Layout) × (layout ≡ Ok l)) × (o ≡ None))
 records_fault true pipe header layout o named = (λ e. absurd cc, λ q. let r = q.0.0 in absurd cc)
 records_fault false true header layout o named = (λ e. absurd cc, λ q. let r = q.0.1 in absurd cc)
@@ -125,7 +138,8 @@ records_fault false false true (Ok layout) None named = (λ e. ((refl, refl, ref
 records_fault false false true (Ok layout) (Some p) named = (λ e. absurd cc, λ q. let r = q.2 in absurd cc)
 records_fault false false true (Err x) o (inl is) = (λ e. absurd cc, λ q. let r = q.1.1 in absurd cc)
 records_fault false false true (Err x) o (inr (inl is)) = (λ e. absurd cc, λ q. let r = q.1.1 in absurd cc)
-records_fault false false true (Err x) o (inr (inr is)) = (λ e. absurd cc, λ q. let r = q.1.1 in absurd cc)
+records_fault false false true (Err x) o (inr (inr (inl is))) = (λ e. absurd cc, λ q. let r = q.1.1 in absurd cc)
+records_fault false false true (Err x) o (inr (inr (inr is))) = (λ e. absurd cc, λ q. let r = q.1.1 in absurd cc)
 
 -- ---- each error of a file
 
@@ -160,6 +174,9 @@ attributes_cause bytes = rw (as_answer bytes) (attributes_fault (is_foreign byte
 
 pub layouts_cause : (bytes : List ℕ) → (perf_of bytes ≡ Err errors.Layouts) ↔ (HasHeader bytes × (shared_layout bytes ≡ Err errors.Layouts))
 layouts_cause bytes = rw (as_answer bytes) (layouts_fault (is_foreign bytes) (is_pipe bytes) (has_file_header bytes) (shared_layout bytes) (section bytes records_place) (layout_fault bytes))
+
+pub machine_cause : (bytes : List ℕ) → (perf_of bytes ≡ Err errors.Machine) ↔ (HasHeader bytes × (shared_layout bytes ≡ Err errors.Machine))
+machine_cause bytes = rw (as_answer bytes) (machine_fault (is_foreign bytes) (is_pipe bytes) (has_file_header bytes) (shared_layout bytes) (section bytes records_place) (layout_fault bytes))
 
 pub records_cause : (bytes : List ℕ) → (perf_of bytes ≡ Err errors.Records) ↔ (HasHeader bytes × ((layout : Layout) × (shared_layout bytes ≡ Ok layout)) × (section bytes records_place ≡ None))
 records_cause bytes = rw (as_answer bytes) (records_fault (is_foreign bytes) (is_pipe bytes) (has_file_header bytes) (shared_layout bytes) (section bytes records_place) (layout_fault bytes))

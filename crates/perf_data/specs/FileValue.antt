@@ -4,7 +4,7 @@ use Rattle.perf_data.specs.declared.errors.PerfError.{PerfError}
 use Rattle.perf_data.specs.declared.errors.PerfError.TheVariants as errors
 use Rattle.perf_data.specs.declared.layout.Layout.{Layout}
 use Rattle.perf_data.specs.FileHeader.{is_foreign, is_pipe, has_file_header, attribute_size, section, attributes_place, records_place, is_unfinished}
-use Rattle.perf_data.specs.Layouts.{first_layout, share_layout}
+use Rattle.perf_data.specs.Layouts.{first_layout, is_of_other_machine, share_layout}
 use Rattle.perf_data.specs.Records.{RecordValue, records_of}
 
 -- the layout of its samples, and its records, of which the last may be the error at which reading stops
@@ -15,10 +15,14 @@ pub record PerfValue : Type 0 where
 abbrev pub file_with : Layout → ℕ × List ℕ → PerfValue
 file_with layout p = record { layout = layout; records = records_of layout p.0 p.1 }
 
+-- a layout, where its registers aren't those of a machine of another kind
+abbrev pub layout_read : Layout → Result Layout PerfError
+layout_read layout = if is_of_other_machine layout then Err errors.Machine else Ok layout
+
 -- the layout that the file's attributes share
 abbrev pub layout_shared : ℕ → List ℕ → Option Layout → Result Layout PerfError
 layout_shared size attributes None = Err errors.Attributes
-layout_shared size attributes (Some layout) = if share_layout layout size attributes then Ok layout else Err errors.Layouts
+layout_shared size attributes (Some layout) = if share_layout layout size attributes then layout_read layout else Err errors.Layouts
 
 abbrev pub layout_among : ℕ → Option (ℕ × List ℕ) → Result Layout PerfError
 layout_among size None = Err errors.Attributes

@@ -49,3 +49,8 @@ share_layout layout size attributes = share_from (length attributes) layout size
 -- the bits of a number that are set in a mask
 abbrev pub has_bits : ℕ → ℕ → Bool
 has_bits n mask = if bit_and n mask == 0 then false else true
+
+-- The registers of the user in samples are those of a machine of another kind than x86. Linux's arch/x86/include/uapi/asm/perf_regs.h has
+-- none with a number from 24 to 31: R15 is the last, and XMM0 the first one after these.
+abbrev pub is_of_other_machine : Layout → Bool
+is_of_other_machine layout = has_bits layout.sample_regs_user 0xff000000

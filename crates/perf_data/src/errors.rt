@@ -23,6 +23,9 @@ pub enum PerfError {
     /// The attributes of two events give samples of different layouts.
     #[error("the events of the perf.data file have samples of different layouts")]
     Layouts,
+    /// Samples have registers that x86-64 doesn't have: a machine of another kind wrote the file.
+    #[error("the samples of the perf.data file have registers of another machine")]
+    Machine,
     /// The section of the records doesn't lie within the file.
     #[error("the records of the perf.data file pass its end")]
     Records,

@@ -2,7 +2,8 @@
 ghost use Rattle.std.specs.Prelude.{◌≡◌, ◌↔◌, ◌+◌, ◌<◌, ◌≤◌, ◌^◌, length, IsTrue, IsFalse};
 ghost use Rattle.std.specs.Prelude.{Ok, Err, None};
 ghost use Rattle.perf_data.specs.declared.layout.Layout.{Layout};
-ghost use Rattle.perf_data.specs.FileValue.{perf_of, shared_layout, records_after, HasHeader};
+ghost use Rattle.perf_data.specs.FileValue.{layout_read, perf_of, shared_layout, records_after};
+ghost use Rattle.perf_data.specs.FileValue.{HasHeader};
 ghost use Rattle.perf_data.specs.FileHeader.{is_foreign, is_pipe, has_file_header};
 ghost use Rattle.perf_data.specs.FileHeader.{is_unfinished, section, records_place};
 ghost use Rattle.perf_data.specs.Views.{records_left};
@@ -12,7 +13,7 @@ use crate::header::{
     ATTRIBUTES_OFFSET, RECORDS_OFFSET, attribute_size, has_file_header, is_foreign, is_pipe,
     is_unfinished, section,
 };
-use crate::layout::{Layout, first_layout, share_layout};
+use crate::layout::{Layout, first_layout, is_of_other_machine, share_layout};
 use crate::records::Records;
 use std::marker::Model;
 
@@ -36,6 +37,17 @@ impl<'a> Model for PerfFile<'a> {
     ghost view = { λ f. file_with f.layout (f.offset, f.bytes.now) };
 }
 
+/// A layout, where its registers aren't those of a machine of another kind.
+fn read_layout(layout: Layout) -> Result<Layout, PerfError>
+    ensures { result ≡ layout_read layout }
+{
+    if is_of_other_machine(&layout) {
+        Err(PerfError::Machine)
+    } else {
+        Ok(layout)
+    }
+}
+
 /// The layout that the attributes of a file share.
 #[tactic(auto, unfolding(crate::specs::FileValue::shared_layout))]
 pub(crate) fn shared_layout(bytes: &[u8]) -> Result<Layout, PerfError>
@@ -53,7 +65,7 @@ pub(crate) fn shared_layout(bytes: &[u8]) -> Result<Layout, PerfError>
         return Err(PerfError::Attributes);
     };
     if share_layout(&layout, size as usize, attributes) {
-        Ok(layout)
+        read_layout(layout)
     } else {
         Err(PerfError::Layouts)
     }
@@ -98,7 +110,8 @@ impl<'a> PerfFile<'a> {
     /// # Errors
     ///
     /// The first that holds, in this order: [`PerfError::ByteOrder`], [`PerfError::Pipe`], [`PerfError::Header`],
-    /// [`PerfError::Unfinished`], [`PerfError::Attributes`], [`PerfError::Layouts`] and [`PerfError::Records`].
+    /// [`PerfError::Unfinished`], [`PerfError::Attributes`], [`PerfError::Layouts`], [`PerfError::Machine`] and
+    /// [`PerfError::Records`].
     pub fn parse(bytes: &'a [u8]) -> Result<PerfFile<'a>, PerfError>
         ensures exact { result ≡ perf_of bytes.now }
         // Which error it is.
@@ -114,6 +127,8 @@ impl<'a> PerfFile<'a> {
             (HasHeader bytes.now × (shared_layout bytes.now ≡ Err PerfError.Attributes)) }
         ensures layouts { (result ≡ Err PerfError.Layouts) ↔
             (HasHeader bytes.now × (shared_layout bytes.now ≡ Err PerfError.Layouts)) }
+        ensures machine { (result ≡ Err PerfError.Machine) ↔
+            (HasHeader bytes.now × (shared_layout bytes.now ≡ Err PerfError.Machine)) }
         ensures records { (result ≡ Err PerfError.Records) ↔
             (HasHeader bytes.now × ((layout : Layout) × (shared_layout bytes.now ≡ Ok layout)) ×
             (section bytes.now records_place ≡ None)) }

@@ -2,6 +2,7 @@
 ghost use Rattle.std.specs.Prelude.{◌≡◌, ◌+◌, ◌≤◌, length};
 ghost use Rattle.perf_data.specs.Layouts.{later_word_at, layout_of, is_same_layout};
 ghost use Rattle.perf_data.specs.Layouts.{first_layout, share_layout, has_bits};
+ghost use Rattle.perf_data.specs.Layouts.{is_of_other_machine};
 
 use memory_image::{u32_at, u64_at};
 
@@ -20,6 +21,9 @@ const READ_FORMAT_OFFSET: usize = 32;
 const BRANCH_SAMPLE_TYPE_OFFSET: usize = 72;
 
 const SAMPLE_REGS_USER_OFFSET: usize = 80;
+
+// the registers whose numbers x86 doesn't give
+const OTHER_REGISTERS: u64 = 0xff00_0000;
 
 /// Which fields stand in a sample, by Linux's `struct perf_event_attr`, and the size of this.
 #[derive(Clone, Copy, Debug)]
@@ -73,6 +77,13 @@ fn is_same_layout(a: &Layout, b: &Layout) -> bool
         && a.read_format == b.read_format
         && a.branch_sample_type == b.branch_sample_type
         && a.sample_regs_user == b.sample_regs_user
+}
+
+/// Whether samples have registers of a machine of another kind.
+pub(crate) fn is_of_other_machine(layout: &Layout) -> bool
+    ensures { result ≡ is_of_other_machine layout.now }
+{
+    has_bits(layout.sample_regs_user, OTHER_REGISTERS)
 }
 
 /// The layout that the first of these attributes tells. `None` where there is none, or it tells another size.

@@ -1,7 +1,7 @@
 -- The lines in the profile's place.
 use Rattle.std.specs.Prelude.{ℕ, List, ◌++◌, codes}
 use Rattle.perf_data.specs.declared.errors.PerfError.{PerfError}
-use Rattle.perf_data.specs.declared.errors.PerfError.TheVariants.{ByteOrder, Pipe, Header, Unfinished, Attributes, Layouts, Records, Cut, Size, Body, Compressed, Trailing}
+use Rattle.perf_data.specs.declared.errors.PerfError.TheVariants.{ByteOrder, Pipe, Header, Unfinished, Attributes, Layouts, Machine, Records, Cut, Size, Body, Compressed, Trailing}
 use Rattle.stack_report.specs.Digits.{hexadecimal}
 use Rattle.stack_report.specs.Report.{line}
 
@@ -16,6 +16,7 @@ cause_text Header = codes "header"
 cause_text Unfinished = codes "unfinished"
 cause_text Attributes = codes "attributes"
 cause_text Layouts = codes "layouts"
+cause_text Machine = codes "machine"
 cause_text Records = codes "records"
 cause_text (Cut offset) = at_text (codes "cut") offset
 cause_text (Size offset) = at_text (codes "small") offset

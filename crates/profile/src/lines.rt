@@ -25,6 +25,7 @@ fn put_cause(report: &mut Report, error: PerfError) -> Result<(), AllocError>
         PerfError::Unfinished => report.put("unfinished"),
         PerfError::Attributes => report.put("attributes"),
         PerfError::Layouts => report.put("layouts"),
+        PerfError::Machine => report.put("machine"),
         PerfError::Records => report.put("records"),
         PerfError::Cut(offset) => put_at(report, "cut", offset),
         PerfError::Size(offset) => put_at(report, "small", offset),

@@ -160,6 +160,8 @@ fn what_is_cut_damaged_or_foreign_is_refused(rt: HostRuntime) -> Result<(), Fail
         (8, 16, PerfError::Pipe),
         (16, 0x6f, PerfError::Attributes),
         (32, 0x6f, PerfError::Attributes),
+        // The samples have a register with the number 24, which x86 doesn't give.
+        (187, 1, PerfError::Machine),
         (48, 0, PerfError::Unfinished),
         (48, 0xdf, PerfError::Cut(344)),
         (222, 4, PerfError::Size(216)),

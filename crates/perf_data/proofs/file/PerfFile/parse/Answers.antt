@@ -1,4 +1,4 @@
-use Rattle.perf_data.proofs.FileLemmas.{foreign_cause, pipe_cause, header_cause, unfinished_cause, attributes_cause, layouts_cause, records_cause}
+use Rattle.perf_data.proofs.FileLemmas.{foreign_cause, pipe_cause, header_cause, unfinished_cause, attributes_cause, layouts_cause, machine_cause, records_cause}
 use Rattle.perf_data.proofs.file.PerfFile.parse.Goals as goal
 
 pub returns-clause-byte_order : goal.returns-clause-byte_order
@@ -18,6 +18,9 @@ returns-clause-attributes c = rw c.file_in.ensures (attributes_cause c.args.byte
 
 pub returns-clause-layouts : goal.returns-clause-layouts
 returns-clause-layouts c = rw c.file_in.ensures (layouts_cause c.args.bytes.now)
+
+pub returns-clause-machine : goal.returns-clause-machine
+returns-clause-machine c = rw c.file_in.ensures (machine_cause c.args.bytes.now)
 
 pub returns-clause-records : goal.returns-clause-records
 returns-clause-records c = rw c.file_in.ensures (records_cause c.args.bytes.now)
