@@ -13,4 +13,3 @@ pub mod KnownTraces
 pub mod ThreadLines
 pub mod Faults
 pub mod PointedChain
-pub mod PoppedChain

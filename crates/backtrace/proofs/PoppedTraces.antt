@@ -1,10 +1,7 @@
 -- What a trace keeps of popped registers, and that it keeps none where its stack isn't cut at its start.
 use Rattle.std.proofs.Common.{◌≡◌, ℕ, zero, suc, Bool, true, false, List, [], ◌∷◌, Option, Some, None, Result, Ok, Err, refl, sym, ap, subst, ◌∙◌}
 use Rattle.std.specs.Prelude.{map}
-use Rattle.std.specs.Int.{w64, to_le_bytes}
-use Rattle.memory_image.specs.declared.errors.ImageError.{ImageError}
-use Rattle.memory_image.specs.Image.{Span, IsLaidOut, refusal, with_span}
-use Rattle.memory_image.proofs.OverLemmas.{is_taken, over}
+use Rattle.memory_image.specs.Image.{IsLaidOut}
 use Rattle.unwind_definitions.specs.State.{State}
 use Rattle.unwind_arch.specs.declared.x86_64.Context.{Context}
 use Rattle.format_frames.specs.declared.machine.Stepped.{Stepped}
@@ -18,8 +15,8 @@ use Rattle.stack_walks.specs.Lines.{line_of}
 use Rattle.stack_walks.specs.WalkEnds.{ComesTo, contexts_to_end, start_state}
 use Rattle.stack_walks.proofs.EndAnswers.{line_whole}
 use Rattle.stack_walks.proofs.KnownLines.{known_comes, known_walked}
-use Rattle.popped_registers.specs.PoppedRegisters.{are_some, image_unless, image_with, is_popped, kept_over, popped_at, popped_in, popped_where}
-use Rattle.popped_registers.proofs.KeptLemmas.{unkept, whole_popped}
+use Rattle.popped_registers.specs.PoppedRegisters.{are_some, is_popped, popped_at, popped_in, popped_where}
+use Rattle.popped_registers.proofs.KeptLemmas.{kept_laid_out, unkept, whole_popped}
 use Rattle.stack_deliver.specs.StateViews.{state_of}
 use Rattle.stack_deliver.proofs.Chains.{shown_states}
 use Rattle.stack_snapshot.specs.Content.{Content, space_of}
@@ -112,25 +109,6 @@ module _ (space : SpaceValue) where
   whole_trace (Some caller) c interrupted limit t states is whole = is.1.marked
 
 -- ---- over the memory that keeps them
-
-with_laid_out : (image : List Span) (a : ℕ) (bytes : List ℕ) → IsLaidOut 0 image → IsLaidOut 0 (image_with image a bytes)
-with_laid_out image a bytes laid = go (refusal image a bytes) refl
-  where
-    go : (o : Option ImageError) → refusal image a bytes ≡ o → IsLaidOut 0 (image_unless o (with_span (record { start = a; bytes = bytes }) image) image)
-    go None is = (over image a bytes laid (is_taken image a bytes is)).laid_out
-    go (Some e) is = laid
-
--- regions one after another
-grown_laid_out : {A : Type 0} (grown : List Span → List A → List Span) (one : List Span → A → List Span) → ((image : List Span) → grown image [] ≡ image)
-    → ((image : List Span) (p : A) (ps : List A) → grown image (p ∷ ps) ≡ grown (one image p) ps) → ((image : List Span) (p : A) → IsLaidOut 0 image → IsLaidOut 0 (one image p))
-    → (image : List Span) (ps : List A) → IsLaidOut 0 image → IsLaidOut 0 (grown image ps)
-grown_laid_out grown one none more each image [] laid = subst (λ (spans : List Span). IsLaidOut 0 spans) (sym (none image)) laid
-grown_laid_out grown one none more each image (p ∷ ps) laid =
-    subst (λ (spans : List Span). IsLaidOut 0 spans) (sym (more image p ps)) (grown_laid_out grown one none more each (one image p) ps (each image p laid))
-
-kept_laid_out : (space : SpaceValue) (limit : ℕ) (c : Context) → IsLaidOut 0 space.image → IsLaidOut 0 (kept_over space.image (popped_in space limit c))
-kept_laid_out space limit c laid =
-    grown_laid_out kept_over (λ image p. image_with image p.slot (to_le_bytes w64 p.word)) (λ image. refl) (λ image p ps. refl) (λ image p. with_laid_out image p.slot (to_le_bytes w64 p.word)) space.image (popped_in space limit c) laid
 
 module _ (s : Content) (o : Options) (places : PlacesValue) where
   -- The lines of a trace that keeps none are written where none were popped.

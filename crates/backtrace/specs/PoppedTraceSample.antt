@@ -1,12 +1,6 @@
 -- The snapshot of a thread that was stopped at the return of a function that pushes RBX, after the pop, with its stack from its stack
--- pointer on; and what is known of its frames.
-use Rattle.std.specs.Prelude.{ℕ, List, [], ◌∷◌, ◌++◌, codes, true, false, Some, None}
-use Rattle.unwind_definitions.specs.Entries.{Entry, ACie, AFde}
-use Rattle.unwind_definitions.specs.Module.{Module as UnwindModule, Frames}
-use Rattle.unwind_definitions.specs.State.{State, RBX, RBP, R12, R13, R14, R15}
-use Rattle.unwind_laws.specs.Pushing as pushing
-use Rattle.frame_facts.specs.Facts.{Facts, Slot}
-use Rattle.frame_facts.specs.StepFacts.{all_callee_saved}
+-- pointer on.
+use Rattle.std.specs.Prelude.{ℕ, List, [], ◌∷◌, ◌++◌, codes, true, None}
 use Rattle.stack_steps.specs.StopSample.{pushing_module}
 use Rattle.stack_walks.specs.declared.walk_end.EndReason.TheVariants.{Outermost}
 use Rattle.popped_registers.specs.PoppedSample as popped
@@ -57,35 +51,3 @@ samples_json = codes "{\"regions\":[{\"address\":\"0x500000\",\"bytes\":\"140000
 
 abbrev pub threads : List ℕ
 threads = (line (codes "thread 0") ++ text) ++ []
-
--- ---- its frames
-
--- the module, and the entries of its table
-abbrev pub home : UnwindModule
-home = record { start = 0x401000; end = 0x401010; text = None; tables = Frames 0x500000 }
-
-abbrev pub entries : List Entry
-entries = ACie pushing.cie ∷ AFde popped.fde ∷ []
-
-abbrev pub rbx_slot : Slot
-rbx_slot = record { register = RBX; distance = 16 }
-
--- After the pop each register holds its value in the caller. RBX's slot, which is kept, holds it too.
-abbrev pub known_at_return : Facts
-known_at_return = record { rsp = Some 8; rbp = None; saved = rbx_slot ∷ []; kept = all_callee_saved; outermost = false }
-
-abbrev pub known_in_body : Facts
-known_in_body = record { rsp = Some 16; rbp = None; saved = rbx_slot ∷ []; kept = RBP ∷ R12 ∷ R13 ∷ R14 ∷ R15 ∷ []; outermost = false }
-
-abbrev pub at_return : State
-at_return = pushing.state 0x40100f 0x7008 9
-
-abbrev pub in_body : State
-in_body = pushing.state 0x401006 0x7010 9
-
-abbrev pub outside : State
-outside = pushing.state 0 0x7020 1
-
--- its callers' states, the innermost first
-abbrev pub callers : List State
-callers = in_body ∷ outside ∷ []

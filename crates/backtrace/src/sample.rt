@@ -22,6 +22,7 @@ ghost use Rattle.unwind_arch.specs.declared.x86_64.Context.{Context};
 ghost use Rattle.backtrace.specs.PoppedStacks.{BeginsPoppedStack, PopsAtStart, kept_of};
 ghost use Rattle.backtrace.specs.PoppedStacks.{popped_stack_text, popped_text};
 ghost use Rattle.backtrace.specs.PoppedTraceSample as popped;
+ghost use Rattle.popped_registers.specs.PoppedSample as popped_stack;
 ghost use Rattle.stack_snapshot.specs.Sampled.{SampledContent, sampled_in};
 ghost use Rattle.folded_stacks.specs.declared.samples.Sample.{Sample};
 ghost use Rattle.unwind_definitions.specs.Chain.{Call};
@@ -190,13 +191,15 @@ pub fn popped_register_is_traced()
     ensures pops { PopsAtStart popped.snapshot }
     ensures ends { ComesTo Outermost (kept_of popped.snapshot) popped.snapshot.limit
         popped.snapshot.start true }
-    ensures begins { BeginsPoppedStack popped.snapshot popped.at_return popped.callers }
+    ensures begins { BeginsPoppedStack popped.snapshot popped_stack.at_return
+        popped_stack.callers }
     ensures traced { IsTraceOf popped.snapshot popped.places popped.trace }
     ensures written { text_of plain popped.snapshot popped.places popped.trace ≡ popped.text }
     ensures kept { popped_text plain popped.snapshot popped.places Outermost ≡ popped.text }
-    ensures known { (begins : BeginsPoppedStack popped.snapshot popped.at_return popped.callers) →
-        popped_stack_text plain popped.snapshot popped.places popped.at_return popped.callers
-        begins ≡ popped.text }
+    ensures known { (begins : BeginsPoppedStack popped.snapshot popped_stack.at_return
+        popped_stack.callers) →
+        popped_stack_text plain popped.snapshot popped.places popped_stack.at_return
+        popped_stack.callers begins ≡ popped.text }
 {}
 
 /// As a sample it meets what `run` asks of samples, from their bytes on, and these lines are then

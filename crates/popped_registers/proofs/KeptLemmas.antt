@@ -5,7 +5,8 @@ use Rattle.std.specs.Prelude.{IsOk, MatchOption, get_or, map}
 use Rattle.std.specs.List.{cons_option}
 use Rattle.std.specs.Int.{w64, to_le_bytes}
 use Rattle.memory_image.specs.declared.errors.ImageError.{ImageError}
-use Rattle.memory_image.specs.Image.{Span, AddsRegion, holds, refusal, table_at, with_span}
+use Rattle.memory_image.specs.Image.{Span, AddsRegion, IsLaidOut, holds, refusal, table_at, with_span}
+use Rattle.memory_image.proofs.OverLemmas.{is_taken, over}
 use Rattle.unwind_definitions.specs.Instructions.{Rule}
 use Rattle.unwind_definitions.specs.LanguageSearch.{address_of_call}
 use Rattle.unwind_arch.specs.declared.register.Register.{Register}
@@ -56,6 +57,23 @@ refused_with image a bytes r e err refused = go (refusal image a bytes) refused
     go : (o : Option ImageError) → MatchOption o (IsOk r) (λ e. r ≡ Err e) → image ≡ image_unless o (with_span (record { start = a; bytes = bytes }) image) image
     go None is = absurd (not_ok e (subst (λ (x : Result (List Span) ImageError). IsOk x) err is))
     go (Some e) is = refl
+
+-- ---- images that stay laid out
+
+-- with one region more, where it is taken
+pub with_laid_out : (image : List Span) (a : ℕ) (bytes : List ℕ) → IsLaidOut 0 image → IsLaidOut 0 (image_with image a bytes)
+with_laid_out image a bytes laid = go (refusal image a bytes) refl
+  where
+    go : (o : Option ImageError) → refusal image a bytes ≡ o → IsLaidOut 0 (image_unless o (with_span (record { start = a; bytes = bytes }) image) image)
+    go None is = (over image a bytes laid (is_taken image a bytes is)).laid_out
+    go (Some e) is = laid
+
+slots_laid_out : (image : List Span) (ps : List PoppedRegister) → IsLaidOut 0 image → IsLaidOut 0 (kept_over image ps)
+slots_laid_out image [] laid = laid
+slots_laid_out image (p ∷ ps) laid = slots_laid_out (image_with image p.slot (to_le_bytes w64 p.word)) ps (with_laid_out image p.slot (to_le_bytes w64 p.word) laid)
+
+pub kept_laid_out : (space : SpaceValue) (limit : ℕ) (c : Context) → IsLaidOut 0 space.image → IsLaidOut 0 (kept_over space.image (popped_in space limit c))
+kept_laid_out space limit c laid = slots_laid_out space.image (popped_in space limit c) laid
 
 -- ---- one register more
 

@@ -1,3 +1,4 @@
 pub mod KeptLemmas
 pub mod RealignedWalks
+pub mod SampleStack
 pub mod SampleWalks

@@ -1,11 +1,15 @@
 -- A thread that was stopped at the return of a function that pushes RBX, after the pop, with its stack from its stack pointer on.
-use Rattle.std.specs.Prelude.{ℕ, ◌-◌, ◌^◌, List, [], ◌∷◌, None}
+use Rattle.std.specs.Prelude.{ℕ, ◌-◌, ◌^◌, false, List, [], ◌∷◌, Some, None}
 use Rattle.memory_image.specs.Image.{Span}
 use Rattle.unwind_definitions.specs.Columns as column
-use Rattle.unwind_definitions.specs.Entries.{Fde}
+use Rattle.unwind_definitions.specs.Entries.{ACie, AFde, Entry, Fde}
 use Rattle.unwind_definitions.specs.Instructions.{Nop, Advance, Write, CfaOffset, Offset}
+use Rattle.unwind_definitions.specs.Module.{Frames, Module as UnwindModule}
 use Rattle.unwind_definitions.specs.Row.{RowInstructions}
+use Rattle.unwind_definitions.specs.State.{R12, R13, R14, R15, RBP, RBX, State}
 use Rattle.unwind_laws.specs.Pushing as pushing
+use Rattle.frame_facts.specs.Facts.{Facts, Slot}
+use Rattle.frame_facts.specs.StepFacts.{all_callee_saved}
 use Rattle.unwind_arch.specs.declared.x86_64.Context.{Context}
 use Rattle.stack_steps.specs.Modules.{SpaceValue, without_index}
 use Rattle.stack_steps.specs.StopSample.{pushing_module}
@@ -76,3 +80,35 @@ popped_run = record { common = pushing.common; own = Advance 1 ∷ CfaOffset 16 
 
 abbrev pub body_run : RowInstructions
 body_run = record { common = pushing.common; own = Advance 1 ∷ CfaOffset 16 ∷ Write column.rbx (Offset (2 ^ 64 - 16)) ∷ [] }
+
+-- ---- what is known of its frames
+
+-- the module, and the entries of its table
+abbrev pub home : UnwindModule
+home = record { start = 0x401000; end = 0x401010; text = None; tables = Frames 0x500000 }
+
+abbrev pub entries : List Entry
+entries = ACie pushing.cie ∷ AFde fde ∷ []
+
+abbrev pub rbx_slot : Slot
+rbx_slot = record { register = RBX; distance = 16 }
+
+-- After the pop each register holds its value in the caller. RBX's slot, which is kept, holds it too.
+abbrev pub known_at_return : Facts
+known_at_return = record { rsp = Some 8; rbp = None; saved = rbx_slot ∷ []; kept = all_callee_saved; outermost = false }
+
+abbrev pub known_in_body : Facts
+known_in_body = record { rsp = Some 16; rbp = None; saved = rbx_slot ∷ []; kept = RBP ∷ R12 ∷ R13 ∷ R14 ∷ R15 ∷ []; outermost = false }
+
+abbrev pub at_return : State
+at_return = pushing.state 0x40100f 0x7008 9
+
+abbrev pub in_body : State
+in_body = pushing.state 0x401006 0x7010 9
+
+abbrev pub outermost : State
+outermost = pushing.state 0 0x7020 1
+
+-- its callers' states, the innermost first
+abbrev pub callers : List State
+callers = in_body ∷ outermost ∷ []

@@ -13,10 +13,12 @@ use Rattle.perf_data.specs.Samples.{after_read, after_callchain, after_raw, afte
 use Rattle.perf_data.proofs.RecordLemmas.{records_end, records_next}
 use Rattle.popped_registers.specs.PoppedRegisters.{are_some, is_popped, kept_space}
 use Rattle.popped_registers.specs.PoppedSample as popped
+use Rattle.popped_registers.proofs.SampleStack.{in_body_state, sample_known}
 use Rattle.popped_registers.proofs.SampleWalks.{sample_ends, sample_popped, sample_states}
 use Rattle.stack_walks.specs.declared.walk_end.EndReason.TheVariants as reason
 use Rattle.sampled_profile.specs.declared.stack_end.StackEnd.TheVariants.{Outermost}
 use Rattle.sampled_profile.specs.Ends.{StackWalk, returns_of}
+use Rattle.sampled_profile.specs.KnownSamples.{BeginsKnownFront, BeginsPoppedStack}
 use Rattle.sampled_profile.specs.Walks.{end_of, start_of, walk_by, walk_from, walk_of}
 use Rattle.sampled_profile.proofs.EndLemmas.{comes_told}
 use Rattle.profile.specs.KnownSample.{layout}
@@ -81,3 +83,17 @@ walked_so =
 
 pub sample_is_walked : walk_of walked.space walked.limit sample_value ≡ walk
 sample_is_walked = ap (walk_by walked.space walked.limit popped.stack) start_is_read ∙ walked_so
+
+-- ---- its stack
+
+pub popped_sample_begins : BeginsPoppedStack walked.space walked.limit sample_value popped.at_return popped.callers
+popped_sample_begins = record { start = popped.start; told = start_is_read; pops = ap are_some sample_popped; known = sample_known }
+
+pub popped_front_begins : BeginsKnownFront walked.space walked.limit sample_value popped.at_return (popped.in_body ∷ [])
+popped_front_begins = record {
+  start = popped.start;
+  told = start_is_read;
+  shows = sample_known.shows;
+  front = (sample_known.stack.0, in_body_state, tt);
+  shorter = lit< tt;
+}

@@ -1,5 +1,5 @@
 -- What is due of a file that is read from a source, and what is answered.
-use Rattle.std.proofs.Common.{◌≡◌, ◌≢◌, ◌⊎◌, inl, inr, ℕ, List, [], Option, Some, None, Result, Ok, Err, refl, sym, ap, subst, ◌∙◌}
+use Rattle.std.proofs.Common.{◌≡◌, ◌≢◌, inl, inr, ℕ, List, Option, Some, Result, Ok, Err, refl, sym, ap, subst, ◌∙◌}
 use Rattle.std.specs.Prelude.{IfSome, IsErrAnd}
 use Rattle.memory_image.specs.Results.{result_map}
 use Rattle.perf_data.specs.declared.errors.PerfError.{PerfError}
@@ -16,10 +16,10 @@ use Rattle.sampled_profile.specs.Profiles.{Tables, profile_text}
 use Rattle.sampled_profile.specs.Streamed.{GivesStreamed, profile_due}
 use Rattle.sampled_profile.proofs.StreamedLemmas.{of_all, of_each}
 use Rattle.command_ends.specs.declared.status.Status.{Status}
-use Rattle.command_ends.specs.declared.status.Status.TheVariants.{Done, ReadFault, Refused, Memory}
+use Rattle.command_ends.specs.declared.status.Status.TheVariants.{Done}
 use Rattle.command_ends.specs.Verdicts.{IsReadyOrFailed, ReadsWhole}
 use Rattle.profile.specs.declared.request.Form.{Form}
-use Rattle.profile.specs.declared.request.Form.TheVariants.{Folded, Script}
+use Rattle.profile.specs.declared.request.Form.TheVariants.{Folded}
 use Rattle.profile.specs.Due.{content_due, file_due, lines_due, read_due, tables_of, told_by, told_due}
 use Rattle.profile.specs.Reading.{IsFailure}
 

@@ -72,5 +72,8 @@ abbrev pub value : PerfValue
 value = record { layout = layout; records = Ok (Named name_value) ∷ Ok (Sampled sample_value) ∷ [] }
 
 -- the latest first
+abbrev pub earlier : List RecordValue
+earlier = Named name_value ∷ []
+
 abbrev pub records : List RecordValue
-records = Sampled sample_value ∷ Named name_value ∷ []
+records = Sampled sample_value ∷ earlier

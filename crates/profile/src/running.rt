@@ -15,8 +15,12 @@ ghost use Rattle.folded_stacks.specs.Counts.{StackCount, HasStack, IsFolded};
 ghost use Rattle.stack_snapshot.specs.Answers.{content_of, value_of};
 ghost use Rattle.stack_snapshot.specs.Content.{space_of};
 ghost use Rattle.stack_snapshot.specs.Origins.{OriginValue, origins_by};
-ghost use Rattle.sampled_profile.specs.KnownSamples.{BeginsKnownStack, HasSample};
+ghost use Rattle.sampled_profile.specs.declared.stack_end.StackEnd.{StackEnd};
+ghost use Rattle.sampled_profile.specs.KnownSamples.{BeginsKnownFront, BeginsKnownStack};
+ghost use Rattle.sampled_profile.specs.KnownSamples.{BeginsPoppedStack, HasSample};
+ghost use Rattle.sampled_profile.specs.KnownSamples.{front_lines, front_text};
 ghost use Rattle.sampled_profile.specs.KnownSamples.{known_lines, known_text};
+ghost use Rattle.sampled_profile.specs.KnownSamples.{popped_lines, popped_text};
 ghost use Rattle.sampled_profile.specs.Profiles.{Tables, profile_text, stacks_of, tables};
 ghost use Rattle.sampled_profile.specs.Scripts.{script_text};
 ghost use Rattle.sampled_profile.specs.Streamed.{GivesStreamed};
@@ -283,6 +287,45 @@ pub fn run<I: Source, O: Sink>(
         (after : List ℕ) × Tells (verdict Status.Done
         (script_text t earlier ++ known_lines t earlier sample s callers is ++ after)) result
         (O.holds output.old) (O.holds output.new)) }
+    // And so it is, with a mark, of a sample at whose thread's start registers were popped, and whose
+    // stack is known over the memory that keeps them.
+    ensures folded_popped { IfSome (I.left input.old) (λ bytes. (t : Tables)
+        (records earlier : List RecordValue) (sample : SampleValue) (s : State)
+        (callers : List State) →
+        Asks Form.Folded words.now tables.now bytes t records → HasSample records sample earlier →
+        (is : BeginsPoppedStack t.space t.limit sample s callers) →
+        (lines : List StackCount) × IsFolded (stacks_of t records) lines ×
+        HasStack lines (popped_text t earlier sample s callers is) ×
+        Tells (verdict Status.Done (profile_text lines)) result (O.holds output.old)
+        (O.holds output.new)) }
+    ensures script_popped { IfSome (I.left input.old) (λ bytes. (t : Tables)
+        (records earlier : List RecordValue) (sample : SampleValue) (s : State)
+        (callers : List State) →
+        Asks Form.Script words.now tables.now bytes t records → HasSample records sample earlier →
+        (is : BeginsPoppedStack t.space t.limit sample s callers) →
+        (after : List ℕ) × Tells (verdict Status.Done
+        (script_text t earlier ++ popped_lines t earlier sample s callers is ++ after)) result
+        (O.holds output.old) (O.holds output.new)) }
+    // Where this is known of the innermost frames alone, as of a stack that goes on after the end of
+    // its copy, these frames are innermost, whatever more there is and whyever it ends.
+    ensures folded_front { IfSome (I.left input.old) (λ bytes. (t : Tables)
+        (records earlier : List RecordValue) (sample : SampleValue) (s : State)
+        (callers : List State) →
+        Asks Form.Folded words.now tables.now bytes t records → HasSample records sample earlier →
+        (is : BeginsKnownFront t.space t.limit sample s callers) →
+        (more : List ℕ) × (end : StackEnd) × (lines : List StackCount) ×
+        IsFolded (stacks_of t records) lines ×
+        HasStack lines (front_text t earlier sample s callers is more end) ×
+        Tells (verdict Status.Done (profile_text lines)) result (O.holds output.old)
+        (O.holds output.new)) }
+    ensures script_front { IfSome (I.left input.old) (λ bytes. (t : Tables)
+        (records earlier : List RecordValue) (sample : SampleValue) (s : State)
+        (callers : List State) →
+        Asks Form.Script words.now tables.now bytes t records → HasSample records sample earlier →
+        (is : BeginsKnownFront t.space t.limit sample s callers) →
+        (more : List ℕ) × (end : StackEnd) × (after : List ℕ) × Tells (verdict Status.Done
+        (script_text t earlier ++ front_lines t earlier sample s callers is more end ++ after))
+        result (O.holds output.old) (O.holds output.new)) }
     // Whatever the source gives, words that name no file are answered so, and no others.
     ensures usage { ComesExactly result Status.Usage (request_in words.now ≡ None) }
     ensures usage_told { request_in words.now ≡ None →

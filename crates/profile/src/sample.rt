@@ -3,7 +3,10 @@ ghost use Rattle.std.specs.Prelude.{◌≡◌, ◌∷◌, [], codes};
 ghost use Rattle.unwind_laws.specs.Pushing as pushing;
 ghost use Rattle.perf_data.specs.Sample.{one_sample};
 ghost use Rattle.folded_stacks.specs.Counts.{IsFolded, counts_of};
-ghost use Rattle.sampled_profile.specs.KnownSamples.{BeginsKnownStack, HasSample, known_text};
+ghost use Rattle.popped_registers.specs.PoppedSample as popped_stack;
+ghost use Rattle.sampled_profile.specs.KnownSamples.{BeginsKnownFront, BeginsKnownStack};
+ghost use Rattle.sampled_profile.specs.KnownSamples.{BeginsPoppedStack, HasSample};
+ghost use Rattle.sampled_profile.specs.KnownSamples.{known_text, popped_text};
 ghost use Rattle.sampled_profile.specs.Profiles.{stacks_of};
 ghost use Rattle.sampled_profile.specs.Scripts.{script_text};
 ghost use Rattle.profile.specs.declared.request.Form.TheVariants.{Folded, Script};
@@ -43,6 +46,7 @@ pub fn a_known_stack_is_asked_for()
 /// A perf.data file of 344 bytes is asked for with the tables of a function that pushes RBX, at
 /// whose return, after the pop, its one sample was taken. RBX's slot isn't in the copy of the stack,
 /// which begins at the stack pointer; its word is kept, and these are the stack's text and its lines.
+/// With the word it is known from the bytes on how each caller's state follows.
 pub fn a_popped_stack_is_asked_for()
     ensures asked { Asks Folded (codes "tables.json" ∷ []) popped.file popped.bytes popped.walked
         popped.records }
@@ -52,4 +56,13 @@ pub fn a_popped_stack_is_asked_for()
         codes "ab;a.out+0x1000;a.out+0x1000;[popped]" ∷ [] }
     ensures script { script_text popped.walked popped.records ≡
         codes "ab 7/8 0.000000009: 1 samples:\n\t0x0 [popped] ([unknown])\n\t0x40100f a.out+0x100f (a.out)\n\t0x401005 a.out+0x1005 (a.out)\n\n" }
+    ensures has { HasSample popped.records popped.sample_value popped.earlier }
+    ensures begins { BeginsPoppedStack popped.walked.space popped.walked.limit
+        popped.sample_value popped_stack.at_return popped_stack.callers }
+    ensures text { (is : BeginsPoppedStack popped.walked.space popped.walked.limit
+        popped.sample_value popped_stack.at_return popped_stack.callers) →
+        popped_text popped.walked popped.earlier popped.sample_value popped_stack.at_return
+        popped_stack.callers is ≡ codes "ab;a.out+0x1000;a.out+0x1000;[popped]" }
+    ensures front { BeginsKnownFront popped.walked.space popped.walked.limit popped.sample_value
+        popped_stack.at_return (popped_stack.in_body ∷ []) }
 {}

@@ -8,4 +8,5 @@ pub mod WalkLemmas
 pub mod ProfileLemmas
 pub mod ScriptLemmas
 pub mod KnownLemmas
+pub mod FrontLemmas
 pub mod StreamedLemmas

@@ -1,6 +1,6 @@
 // The profile of a perf.data file.
-ghost use Rattle.std.specs.Prelude.{◌≡◌, ◌+◌, ◌<◌, ◌≤◌, ◌^◌, ◌++◌, ◌∷◌, [], List, Ok, IfOk, OnOk, length};
-ghost use Rattle.std.specs.Prelude.{sum_by};
+ghost use Rattle.std.specs.Prelude.{◌≡◌, ◌+◌, ◌<◌, ◌≤◌, ◌^◌, ◌++◌, ◌∷◌, [], ℕ, List, Ok, IfOk, OnOk};
+ghost use Rattle.std.specs.Prelude.{length, sum_by};
 ghost use Rattle.perf_data.specs.Records.{RecordValue};
 ghost use Rattle.stack_steps.specs.Modules.{SpaceValue};
 ghost use Rattle.stack_snapshot.specs.Origins.{OriginValue};
@@ -9,7 +9,10 @@ ghost use Rattle.unwind_definitions.specs.State.{State};
 ghost use Rattle.perf_data.specs.Samples.{SampleValue};
 ghost use Rattle.folded_stacks.specs.Counts.{HasStack, IsFolded};
 ghost use Rattle.sampled_profile.specs.Kept.{Counts, IsTally, Knows};
-ghost use Rattle.sampled_profile.specs.KnownSamples.{BeginsKnownStack, HasSample, known_text};
+ghost use Rattle.sampled_profile.specs.KnownSamples.{BeginsKnownFront, BeginsKnownStack};
+ghost use Rattle.sampled_profile.specs.KnownSamples.{BeginsPoppedStack, HasSample, front_text};
+ghost use Rattle.sampled_profile.specs.KnownSamples.{known_text, popped_text};
+ghost use Rattle.sampled_profile.specs.declared.stack_end.StackEnd.{StackEnd};
 ghost use Rattle.sampled_profile.specs.Frames.{frames_of};
 ghost use Rattle.sampled_profile.specs.Names.{process_name_of};
 ghost use Rattle.sampled_profile.specs.Profiles.{profile_of, profile_text, read_all, stacks_of};
@@ -213,6 +216,21 @@ pub fn profile_of(
         read_all file.now.records ≡ Ok read → HasSample read sample earlier →
         (is : BeginsKnownStack space.now limit sample s callers) → HasStack profile
         (known_text (tables space.now origins.now limit) earlier sample s callers is)) }
+    // So it has, with the mark, where registers were popped at the thread's start, and over the memory
+    // that keeps them the stack is known.
+    ensures known_popped { IfOk result (λ profile. (read earlier : List RecordValue)
+        (sample : SampleValue) (s : State) (callers : List State) →
+        read_all file.now.records ≡ Ok read → HasSample read sample earlier →
+        (is : BeginsPoppedStack space.now limit sample s callers) → HasStack profile
+        (popped_text (tables space.now origins.now limit) earlier sample s callers is)) }
+    // Where this is known of the innermost frames alone, as of a stack that goes on after the end of
+    // its copy, its line has these frames innermost, whatever more there is and whyever it ends.
+    ensures known_front { IfOk result (λ profile. (read earlier : List RecordValue)
+        (sample : SampleValue) (s : State) (callers : List State) →
+        read_all file.now.records ≡ Ok read → HasSample read sample earlier →
+        (is : BeginsKnownFront space.now limit sample s callers) →
+        (more : List ℕ) × (end : StackEnd) × HasStack profile
+        (front_text (tables space.now origins.now limit) earlier sample s callers is more end)) }
 {
     // No two of its modules share an address, as a space's type says.
     let _ = space.image();

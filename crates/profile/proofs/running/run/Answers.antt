@@ -6,13 +6,14 @@ use Rattle.folded_stacks.specs.Counts.{StackCount, HasStack, IsFolded}
 use Rattle.command_ends.specs.declared.status.Status.TheVariants.{Done}
 use Rattle.command_ends.specs.Verdicts.{Verdict, verdict, IsReadyOrFailed, Tells}
 use Rattle.command_ends.proofs.VerdictLemmas.{if_some_weaker}
-use Rattle.sampled_profile.specs.KnownSamples.{BeginsKnownStack, HasSample, known_lines, known_text}
+use Rattle.sampled_profile.specs.declared.stack_end.StackEnd.{StackEnd}
+use Rattle.sampled_profile.specs.KnownSamples.{BeginsKnownFront, BeginsKnownStack, BeginsPoppedStack, HasSample, front_lines, front_text, known_lines, known_text, popped_lines, popped_text}
 use Rattle.sampled_profile.specs.Profiles.{Tables, stacks_of, profile_text}
 use Rattle.sampled_profile.specs.Scripts.{script_text}
 use Rattle.profile.specs.declared.request.Form.TheVariants.{Folded, Script}
 use Rattle.profile.specs.Due.{Asks, due_of}
 use Rattle.profile.proofs.Folds.{asked_due, script_due}
-use Rattle.profile.proofs.KnownSamples.{known_folded, known_script}
+use Rattle.profile.proofs.KnownSamples.{front_folded, front_script, known_folded, known_script, popped_folded, popped_script}
 use Rattle.profile.proofs.running.run.Goals as goal
 
 pub returns-clause-told : goal.returns-clause-told
@@ -57,7 +58,7 @@ returns-clause-folded_known g c =
     → (is : BeginsKnownStack t.space t.limit sample s callers) → (lines : List StackCount) × IsFolded (stacks_of t records) lines × HasStack lines (known_text t earlier sample s callers is) × P (verdict Done (profile_text lines)) in
     if_some_weaker (g.I.Source.left c.args.input.now) Q R
     (λ bytes told t records earlier sample s callers asks has is.
-    let k = known_folded words file bytes t records earlier sample s callers has is asks in
+    let k = known_folded words file bytes t records earlier sample has s callers is asks in
     (k.0, k.1, k.2, subst P k.3 told)) (returns-clause-told g c)
 
 pub returns-clause-script_known : goal.returns-clause-script_known
@@ -70,5 +71,57 @@ returns-clause-script_known g c =
     → (is : BeginsKnownStack t.space t.limit sample s callers) → (after : List ℕ) × P (verdict Done (script_text t earlier ++ known_lines t earlier sample s callers is ++ after)) in
     if_some_weaker (g.I.Source.left c.args.input.now) Q R
     (λ bytes told t records earlier sample s callers asks has is.
-    let k = known_script words file bytes t records earlier sample s callers has is asks in
+    let k = known_script words file bytes t records earlier sample has s callers is asks in
     (k.0, subst P k.1 told)) (returns-clause-told g c)
+
+pub returns-clause-folded_popped : goal.returns-clause-folded_popped
+returns-clause-folded_popped g c =
+    let words = c.args.words.now in
+    let file = c.args.tables.now in
+    let P : Verdict → Type 0 = λ due. Tells due c.write_answer.result (g.O.Sink.holds c.args.output.now) (g.O.Sink.holds c.write_answer.new.output) in
+    let Q : List ℕ → Type 0 = λ bytes. P (due_of words file bytes) in
+    let R : List ℕ → Type 0 = λ bytes. (t : Tables) (records earlier : List RecordValue) (sample : SampleValue) (s : State) (callers : List State) → Asks Folded words file bytes t records → HasSample records sample earlier
+    → (is : BeginsPoppedStack t.space t.limit sample s callers) → (lines : List StackCount) × IsFolded (stacks_of t records) lines × HasStack lines (popped_text t earlier sample s callers is) × P (verdict Done (profile_text lines)) in
+    if_some_weaker (g.I.Source.left c.args.input.now) Q R
+    (λ bytes told t records earlier sample s callers asks has is.
+    let k = popped_folded words file bytes t records earlier sample has s callers is asks in
+    (k.0, k.1, k.2, subst P k.3 told)) (returns-clause-told g c)
+
+pub returns-clause-script_popped : goal.returns-clause-script_popped
+returns-clause-script_popped g c =
+    let words = c.args.words.now in
+    let file = c.args.tables.now in
+    let P : Verdict → Type 0 = λ due. Tells due c.write_answer.result (g.O.Sink.holds c.args.output.now) (g.O.Sink.holds c.write_answer.new.output) in
+    let Q : List ℕ → Type 0 = λ bytes. P (due_of words file bytes) in
+    let R : List ℕ → Type 0 = λ bytes. (t : Tables) (records earlier : List RecordValue) (sample : SampleValue) (s : State) (callers : List State) → Asks Script words file bytes t records → HasSample records sample earlier
+    → (is : BeginsPoppedStack t.space t.limit sample s callers) → (after : List ℕ) × P (verdict Done (script_text t earlier ++ popped_lines t earlier sample s callers is ++ after)) in
+    if_some_weaker (g.I.Source.left c.args.input.now) Q R
+    (λ bytes told t records earlier sample s callers asks has is.
+    let k = popped_script words file bytes t records earlier sample has s callers is asks in
+    (k.0, subst P k.1 told)) (returns-clause-told g c)
+
+pub returns-clause-folded_front : goal.returns-clause-folded_front
+returns-clause-folded_front g c =
+    let words = c.args.words.now in
+    let file = c.args.tables.now in
+    let P : Verdict → Type 0 = λ due. Tells due c.write_answer.result (g.O.Sink.holds c.args.output.now) (g.O.Sink.holds c.write_answer.new.output) in
+    let Q : List ℕ → Type 0 = λ bytes. P (due_of words file bytes) in
+    let R : List ℕ → Type 0 = λ bytes. (t : Tables) (records earlier : List RecordValue) (sample : SampleValue) (s : State) (callers : List State) → Asks Folded words file bytes t records → HasSample records sample earlier
+    → (is : BeginsKnownFront t.space t.limit sample s callers) → (more : List ℕ) × (end : StackEnd) × (lines : List StackCount) × IsFolded (stacks_of t records) lines × HasStack lines (front_text t earlier sample s callers is more end) × P (verdict Done (profile_text lines)) in
+    if_some_weaker (g.I.Source.left c.args.input.now) Q R
+    (λ bytes told t records earlier sample s callers asks has is.
+    let k = front_folded words file bytes t records earlier sample has s callers is asks in
+    (k.0, k.1, k.2, k.3, k.4, subst P k.5 told)) (returns-clause-told g c)
+
+pub returns-clause-script_front : goal.returns-clause-script_front
+returns-clause-script_front g c =
+    let words = c.args.words.now in
+    let file = c.args.tables.now in
+    let P : Verdict → Type 0 = λ due. Tells due c.write_answer.result (g.O.Sink.holds c.args.output.now) (g.O.Sink.holds c.write_answer.new.output) in
+    let Q : List ℕ → Type 0 = λ bytes. P (due_of words file bytes) in
+    let R : List ℕ → Type 0 = λ bytes. (t : Tables) (records earlier : List RecordValue) (sample : SampleValue) (s : State) (callers : List State) → Asks Script words file bytes t records → HasSample records sample earlier
+    → (is : BeginsKnownFront t.space t.limit sample s callers) → (more : List ℕ) × (end : StackEnd) × (after : List ℕ) × P (verdict Done (script_text t earlier ++ front_lines t earlier sample s callers is more end ++ after)) in
+    if_some_weaker (g.I.Source.left c.args.input.now) Q R
+    (λ bytes told t records earlier sample s callers asks has is.
+    let k = front_script words file bytes t records earlier sample has s callers is asks in
+    (k.0, k.1, k.2, subst P k.3 told)) (returns-clause-told g c)

@@ -20,7 +20,7 @@ use Rattle.sampled_profile.specs.Names.{name_in, name_of, process_name_of}
 use Rattle.sampled_profile.specs.Scripts.{head_line, sample_lines}
 use Rattle.sampled_profile.specs.Texts.{frame_text, stack_text}
 use Rattle.profile.specs.PoppedSample.{content, sample_value, value, walked}
-use Rattle.profile.proofs.PoppedSampleRead.{popped_sample_is_read, sample_is_walked}
+use Rattle.profile.proofs.PoppedSampleRead.{popped_front_begins, popped_sample_begins, popped_sample_is_read, sample_is_walked}
 use Rattle.profile.proofs.sample.a_popped_stack_is_asked_for.Goals as goal
 
 pub returns-clause-asked : goal.returns-clause-asked
@@ -57,3 +57,16 @@ returns-clause-stacks c =
 pub returns-clause-script : goal.returns-clause-script
 unfolding is_utf8 chars encode_utf8 serde_json_on_literals value_of origins_of digits hexadecimal scan entry_at described_function name_in head_line sample_lines
 returns-clause-script c = ap (λ (w : StackWalk). sample_lines walked.space walked.origins (name_of (Named name_value ∷ []) sample_value.thread) sample_value w) sample_is_walked
+
+pub returns-clause-has : goal.returns-clause-has
+returns-clause-has c = ([], refl)
+
+pub returns-clause-begins : goal.returns-clause-begins
+returns-clause-begins c = popped_sample_begins
+
+pub returns-clause-text : goal.returns-clause-text
+unfolding is_utf8 chars encode_utf8 serde_json_on_literals value_of origins_of digits hexadecimal scan entry_at described_function name_in frame_text stack_text
+returns-clause-text c = λ is. refl
+
+pub returns-clause-front : goal.returns-clause-front
+returns-clause-front c = popped_front_begins

@@ -3,7 +3,9 @@ use Rattle.perf_data.specs.Views.{records_left}
 use Rattle.stack_snapshot.specs.Origins.{OriginValue}
 use Rattle.sampled_profile.specs.Profiles.{profile_of, tables}
 use Rattle.sampled_profile.specs.Told.{Gives}
-use Rattle.sampled_profile.proofs.KnownLemmas.{profile_known}
+use Rattle.sampled_profile.specs.KnownSamples.{front_walk}
+use Rattle.sampled_profile.proofs.FrontLemmas.{walk_front}
+use Rattle.sampled_profile.proofs.KnownLemmas.{in_profile, profile_known, profile_popped}
 use Rattle.sampled_profile.proofs.ProfileLemmas.{due_counted, failed_profile, profile_folded, profile_adds_up}
 use Rattle.sampled_profile.proofs.profile.profile_of.Goals as goal
 
@@ -36,4 +38,14 @@ returns-clause-adds_up c =
 
 pub returns-clause-known : goal.returns-clause-known
 returns-clause-known c = λ read earlier sample s callers reads has is.
-    profile_known (tables c.args.space.now c.args.origins.now c.args.limit) c.image.ensures.apart c.image.ensures.laid_out c.args.file.now.records c.in_ok-counts.counts (returns-clause-lines c) read earlier sample s callers reads has is
+    profile_known (tables c.args.space.now c.args.origins.now c.args.limit) c.args.file.now.records c.in_ok-counts.counts (returns-clause-lines c) read earlier sample reads has c.image.ensures.apart c.image.ensures.laid_out s callers is
+
+pub returns-clause-known_popped : goal.returns-clause-known_popped
+returns-clause-known_popped c = λ read earlier sample s callers reads has is.
+    profile_popped (tables c.args.space.now c.args.origins.now c.args.limit) c.args.file.now.records c.in_ok-counts.counts (returns-clause-lines c) read earlier sample reads has c.image.ensures.apart c.image.ensures.laid_out s callers is
+
+pub returns-clause-known_front : goal.returns-clause-known_front
+returns-clause-known_front c = λ read earlier sample s callers reads has is.
+    let t = tables c.args.space.now c.args.origins.now c.args.limit in
+    let front = walk_front t.space t.limit c.image.ensures.apart c.image.ensures.laid_out sample s callers is in
+    (front.0, front.1, in_profile t c.args.file.now.records c.in_ok-counts.counts (returns-clause-lines c) read earlier sample reads has (front_walk t.space t.limit sample s callers is front.0 front.1) front.2)
