@@ -20,7 +20,7 @@ impl<'a> SystemFiles<'a> {
     }
 }
 
-/// Reads what follows of a file where so many bytes from an offset on are there already.
+/// Reads what follows of a file, of which `done` bytes from an offset on are there already.
 fn read_more(file: &File, bytes: &mut [u8], done: usize, offset: u64) -> io::Result<usize>
     requires { done ≤ length bytes.old }
     ensures within { IfOk result (λ count. done + count ≤ length bytes.old) }

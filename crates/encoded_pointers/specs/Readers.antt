@@ -14,7 +14,7 @@ abbrev pub GivesOr : {X Y : Type 0} → (X → Y) → Result X Fault → Result 
 GivesOr view (Ok x) read new = read ≡ Ok (view x, new)
 GivesOr view (Err e) read new = read ≡ Err e
 
--- so many bytes are there, and are passed
+-- n bytes are there, and are passed
 abbrev pub checked_skip : ℕ → Reads (Unit {0})
 checked_skip n c = if nat_lt (length c.bytes) n then Err UnexpectedEof else Ok (tt, skip n c)
 

@@ -311,7 +311,7 @@ impl<'a> Cursor<'a> {
         Ok(word)
     }
 
-    /// Passes over so many bytes.
+    /// Passes over `count` bytes.
     ///
     /// # Errors
     ///
@@ -328,7 +328,7 @@ impl<'a> Cursor<'a> {
         Ok(())
     }
 
-    /// The next so many bytes, as a cursor of their own.
+    /// The next `count` bytes, as a cursor of their own.
     ///
     /// # Errors
     ///

@@ -129,7 +129,7 @@ pub(crate) const DW_OP_BREG0: u8 = 0x70;
 /// `DW_OP_bregx`: pushes a register plus a number.
 pub(crate) const DW_OP_BREGX: u8 = 0x92;
 
-/// `DW_OP_deref_size`: puts the number of so many bytes at an address in its place.
+/// `DW_OP_deref_size`: puts the number of one to eight bytes at an address in its place.
 pub(crate) const DW_OP_DEREF_SIZE: u8 = 0x94;
 
 /// `DW_OP_nop`: does nothing.

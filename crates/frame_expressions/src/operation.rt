@@ -30,14 +30,14 @@ pub(crate) enum Operation {
     Push(u64),
     /// Pushes what a register holds and a number.
     PushRegister { register: Register, offset: u64 },
-    /// Pushes the word that stands so many below the top.
+    /// Pushes the word that stands this many words under the top.
     Pick(u8),
-    /// Puts the number of so many bytes in the place of its address.
+    /// Puts the number of this many bytes in the place of its address.
     Load(ByteCount),
     Change(Change),
     Combine(Combination),
     Divide(Division),
-    /// Goes on so many bytes further.
+    /// Goes on this many bytes further.
     Skip(u64),
     /// The same, where the top isn't 0.
     Branch(u64),

@@ -16,7 +16,7 @@ use memory_image::MemoryImage;
 use unwind_arch::{Register, RegisterMap};
 use unwind_definitions::Error;
 
-/// Performs an operation of an expression of so many bytes; the next one stands at `next`.
+/// Performs an operation of an expression of `end` bytes; the next one stands at `next`.
 /// Answers where the expression goes on. After a fault the stack is unspecified.
 #[tactic(auto, unfolding(unwind_definitions::specs::Expressions::done))]
 pub(crate) fn perform<R: RegisterMap<Word = u64>>(

@@ -115,7 +115,7 @@ fn read_register_value(input: &mut Cursor) -> Result<Operation, Error>
     })
 }
 
-// The number of so many bytes at an address.
+// The number of one to eight bytes at an address.
 fn read_load(input: &mut Cursor) -> Result<Operation, Error>
     ensures { GivesOr meaning result (loads (at input.old)) (at input.new) }
 {

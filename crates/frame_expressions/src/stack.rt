@@ -78,7 +78,7 @@ impl Stack {
         Ok(self.words[self.length])
     }
 
-    /// Puts the word that stands so many below the top on top.
+    /// Puts the word that stands `below` words under the top on top.
     pub(crate) fn pick(&mut self, below: u8) -> Result<(), Error>
         ensures { Leaves result self.new (pick below self.old) }
     {

@@ -185,8 +185,8 @@ impl<'a> BodyRun<'a> {
         }
     }
 
-    // The same of an instruction that defines the CFA's register or restores a register's initial rule.
-    // What it makes isn't noted.
+    // Runs the next instruction where it defines the CFA's register or restores a register's initial
+    // rule, and makes a body. `false` where it doesn't: then it isn't read. What it makes isn't noted.
     #[inline(never)]
     fn run_other(
         &mut self,

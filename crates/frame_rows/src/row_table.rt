@@ -225,8 +225,9 @@ impl<'a> RowTable<'a> {
 
     /// Adds the rows of a description whose program runs from body to body, from the row that its
     /// common information entry's ended with: `first_row` is the index of a row of the table that says
-    /// the same, if one is known. None is added where it doesn't run so, where they would
-    /// be too many, or where the code alignment factor or the program's length has more than 32 bits.
+    /// the same, if one is known. None is added where it doesn't run so, where they would be too many,
+    /// where the code alignment factor or the program's length has more than 32 bits, or where memory
+    /// runs out on the way.
     #[inline(always)]
     pub(crate) fn add_run(
         &mut self,
@@ -327,7 +328,7 @@ impl<'a> RowTable<'a> {
         Some(rows)
     }
 
-    // Keeps a row by its parts, or a fault. Inlined, as it has so many.
+    // Keeps a row by its parts, or a fault. Inlined, as it has more parts than registers hold.
     #[inline(always)]
     fn push_entry(
         &mut self,

@@ -30,7 +30,7 @@ use unwind_definitions::Error;
 /// Makes a [`RowTable`], one description after another, within limits.
 ///
 /// Each program that isn't known is run over all the locations that it reaches: from body to body or,
-/// where an instruction makes no body, on a machine, from its start.
+/// as where an instruction makes no body, on a machine, from its start.
 #[derive(Drop)]
 pub struct RowTableBuilder<'a> {
     table: RowTable<'a>,

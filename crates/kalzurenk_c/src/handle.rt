@@ -1,4 +1,4 @@
-// A session behind a pointer that doesn't name its type, as a caller in C keeps it.
+// A session by a pointer that doesn't name its type, as a caller in C keeps it.
 ghost use Rattle.std.specs.Prelude.{◌≡◌, Option, Some};
 ghost use Rattle.std.specs.Borrow.{sem};
 ghost use Rattle.kalzurenk_c.specs.HandleOwns.{session_coded, session_owns, slot_coded, slot_owns};

@@ -95,7 +95,7 @@ impl<'a> Source for MemorySource<'a> {
     }
 }
 
-/// A sink that keeps at most so many bytes. The calls with the listed numbers fail, and so do those that bring
+/// A sink that keeps at most as many bytes as it has room for. The calls with the listed numbers fail, and so do those that bring
 /// bytes while it is full.
 ///
 /// Calls are numbered from 0. The counts of calls and of faults stop at 2^64 - 1.

@@ -14,10 +14,10 @@ pub enum PerfError {
     /// The bytes don't begin with the header of a perf.data file.
     #[error("the bytes don't begin with the header of a perf.data file")]
     Header,
-    /// The section of the records has no size: perf tells it when the recording ends.
+    /// The section of the records has no size: perf writes it when the recording ends.
     #[error("the recording of the perf.data file didn't end")]
     Unfinished,
-    /// The attributes of the events don't lie within the file, there are none, or their size isn't the one that they tell.
+    /// The attributes of the events don't lie within the file, there are none, or their size isn't the one that they say.
     #[error("the attributes of the perf.data file aren't whole")]
     Attributes,
     /// The attributes of two events give samples of different layouts.

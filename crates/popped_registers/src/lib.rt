@@ -4,8 +4,8 @@
 //! Where that isn't mapped, as in a copy of the stack from its pointer on, the step to the caller is
 //! refused ([`step`](stack_steps::step)). [`walk_interrupted`] then takes for the caller's what the
 //! register holds, goes on, and says that it did. It is right where the slot was given up, and not
-//! of a function that keeps a register below its stack pointer and changes it: so its answer is
-//! marked.
+//! of a function that keeps a register below its stack pointer and changes it, nor of RAX and RDX
+//! where they hold a result: so its answer is marked.
 #![tactic(auto)]
 
 mod popped;

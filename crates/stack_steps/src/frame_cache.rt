@@ -57,8 +57,8 @@ pub(crate) struct CachedRow<'c> {
 /// Places for rows: that of an address is known by its number alone, and holds the row that was kept
 /// there last.
 ///
-/// A row is kept where two searches in a row that come to its place are for its address, so that
-/// addresses which are asked once cost no copy, and take no place from others.
+/// A row is kept where two searches that come to its place, one after the other, are for its address,
+/// so that addresses which are asked once cost no copy, and take no place from others.
 #[derive(Drop)]
 struct CachedRows<'c> {
     places: Vec<Option<CachedRow<'c>>>,
@@ -119,8 +119,8 @@ impl<'c> CachedRows<'c> {
 
 /// Rows that were found at addresses of a space, so that a step at an address whose row is kept needs
 /// no search, where its CFA is a register and an offset and its registers lie close below that, in the
-/// region of the stack that was read last, as mostly. A row is kept where two searches in a row that
-/// come to its place are for its address, and the module is prepared.
+/// region of the stack that was read last, as mostly. A row is kept where two searches that come to
+/// its place, one after the other, are for its address, and the module is prepared.
 ///
 /// It has a fixed number of places, made once, and serves stack after stack over the space, each over
 /// an image of its own. What it keeps is what a search answers, so that no step depends on it.

@@ -1,4 +1,4 @@
--- A walk that ends within so many frames ends there whatever more of them may be.
+-- A walk that ends within a limit ends in the same way under each higher one.
 use Rattle.std.proofs.Common.{◌≡◌, ◌≢◌, ◌≤◌, inl, inr, ◌∙◌, ℕ, zero, suc, Bool, List, Option, Some, None, Result, Ok, Err, refl, ap, arith}
 use Rattle.unwind_arch.specs.declared.x86_64.Context.{Context}
 use Rattle.format_frames.specs.declared.machine.Stepped.{Stepped}

@@ -18,13 +18,13 @@ use stack_snapshot::{SampledSnapshot, Snapshot, ThrownSnapshot};
 use std::alloc::{AllocError, Global};
 use unwind_arch::x86_64::{Context, RSP};
 
-// Of less stack than this at most so many frames are searched for before modules are prepared: a
+// Of less stack than this at most `FEW_FRAMES` are searched for before modules are prepared: a
 // real frame takes some 64 bytes, and an index of a frame table costs as much as 40 scans of it.
 const SHORT_STACK: usize = 8192;
 
 const FEW_FRAMES: usize = 128;
 
-// And at most so many where the header is longer than the stack: a search costs as much as the
+// And at most this many where the header is longer than the stack: a search costs as much as the
 // index of one description, for which a header has eight bytes, and a frame takes no fewer of the
 // stack.
 const FEW_BY_HEADER: usize = 1024;
