@@ -15,8 +15,9 @@ at most 16 MiB: longer ones are taken up to a common size, or up to --stack-byte
 The modules are the files that the core's note NT_FILE says were mapped, read from disk (below --root, where it is given),
 and the one that the system maps, read from the core. PROGRAM is the program's file, wherever it lies now. Of each module
 the `.eh_frame` is taken at the address at which it lay, since cores leave out what wasn't written to. A file whose build
-id isn't the one in the core is refused if it is PROGRAM, and else left out. Modules that no word of the stacks or
-registers points into are left out, since no return address is theirs.
+id isn't the one in the core is refused if it is PROGRAM, and else left out. All tables together have at most 8 MiB, but
+for those of modules that a word of the stacks or a register points into, which are always taken: return addresses are
+such words.
 
 Wants nothing but Python (tried: 3.11).
 """
@@ -24,13 +25,14 @@ from __future__ import annotations
 
 import array
 import bisect
+import functools
 import io
 import os
 import re
 import signal
 import struct
 import sys
-from typing import BinaryIO, Iterable, Iterator, NamedTuple, Sequence
+from typing import BinaryIO, Callable, Iterable, Iterator, NamedTuple, Sequence
 
 from core_image import AT_ENTRY, AT_SYSINFO_EHDR, Core, Mapped, Thread, core_with
 from elf_image import PAGE, SEGMENT_LOADED, WORD, ElfImage, Range, Refused, Segment, build_id_of
@@ -38,7 +40,7 @@ from frame_table import Table, frame_table_of_header
 from loaded_module import Module, module_objects, taken_line
 from snapshot_file import MOST_STATES, Object, Region, joined_regions, region_object, text_of, write_whole
 
-RED_ZONE, MOST_STACK_BYTES = 128, 16 * 2**20
+RED_ZONE, MOST_STACK_BYTES, MOST_TABLE_BYTES = 128, 16 * 2**20, 8 * 2**20
 SEGMENT_FRAME_HEADER, FRAME_HEADER_SIZE, ENTRY_OFFSET = 0x6474E550, 12, 24
 # What a mapping that no file has is called: nothing, or of a compiler at run time that maps its code twice so.
 OF_NO_FILE = re.compile(r"^$|^/memfd:|^\[anon")
@@ -81,6 +83,10 @@ class Taken(NamedTuple):
     stacks: list[Region]
     loaded: list[Loaded]
     code: Sequence[Object] = ()
+
+
+# Whether a module is wanted of which something lies at these places.
+Wanted = Callable[[Sequence[Range]], bool]
 
 
 def say(line: str) -> None:
@@ -271,14 +277,14 @@ def opened_file(path: str) -> BinaryIO:
         return open(path.removesuffix(" (deleted)"), "rb")
 
 
-def modules_at(core: Core, path: str, name: str, parts: list[Mapped], wanted: list[int]) -> list[Loaded]:
-    """The modules of a file, where they are wanted by an address in their code."""
+def modules_at(core: Core, path: str, name: str, parts: list[Mapped], wanted: Wanted) -> list[Loaded]:
+    """The modules of a file, where they are wanted by the places of their code."""
     with opened_file(path) as stream:
         image = ElfImage(stream)
         found = []
         for bias in biases_of(image, parts):
             check_same(core, image, bias)
-            if points_into(wanted, image.code_ranges(bias)):
+            if wanted(image.code_ranges(bias)):
                 found.append(loaded_at(image, name, bias))
         return found
 
@@ -297,13 +303,13 @@ def by_file(mapped: list[Mapped], program: str | None) -> dict[str, list[Mapped]
     return found
 
 
-def file_modules(core: Core, source: Source, wanted: list[int]) -> Modules:
+def file_modules(core: Core, source: Source, wanted: Wanted) -> Modules:
     """The modules of the files that were mapped, the program's first. Its own file has to be the one that was loaded."""
     mapped = core.mapped()
     program = program_name(core, mapped)
     found = Modules([], code_of_no_file(core, mapped))
     for name, parts in by_file([part for part in mapped if not OF_NO_FILE.match(part.name)], program).items():
-        if name != program and not points_into(wanted, [part.place for part in parts]):
+        if name != program and not wanted([part.place for part in parts]):
             continue
         path = source.program if name == program else source.root + name
         shown = os.path.realpath(path) if name == program else name
@@ -349,7 +355,7 @@ def code_of_no_file(core: Core, mapped: list[Mapped]) -> list[Object]:
     ]
 
 
-def program_by_entry(core: Core, source: Source, wanted: list[int]) -> Iterator[Loaded]:
+def program_by_entry(core: Core, source: Source, wanted: Wanted) -> Iterator[Loaded]:
     """The program's module where no note NT_FILE says what was mapped: by its entry point alone."""
     entry = core.auxiliary(AT_ENTRY)
     if entry is None:
@@ -357,7 +363,7 @@ def program_by_entry(core: Core, source: Source, wanted: list[int]) -> Iterator[
     with open(source.program, "rb") as stream:
         image = ElfImage(stream)
         bias = (entry - int.from_bytes(image.bytes_at(ENTRY_OFFSET, 8), "little")) % WORD
-        if points_into(wanted, image.code_ranges(bias)):
+        if wanted(image.code_ranges(bias)):
             check_same(core, image, bias)
             yield loaded_at(image, os.path.realpath(source.program), bias)
 
@@ -371,14 +377,14 @@ def system_image(core: Core) -> tuple[ElfImage, int] | None:
     return ElfImage(io.BytesIO(core.bytes_of(Range(address, memory.place.end)))), address
 
 
-def system_modules(core: Core, wanted: list[int]) -> Iterator[Loaded]:
+def system_modules(core: Core, wanted: Wanted) -> Iterator[Loaded]:
     """The module that the system maps."""
     try:
         found = system_image(core)
         if found is not None:
             image, address = found
             bias = (address - loaded_segments(image)[0].address) % WORD
-            if points_into(wanted, image.code_ranges(bias)):
+            if wanted(image.code_ranges(bias)):
                 yield loaded_at(image, f"system-supplied DSO at {address:#x}", bias)
     except FAULTS as error:
         say(f"leaves out what the system maps: {error}")
@@ -399,7 +405,7 @@ def words_of(threads: Iterable[Thread], stacks: list[Region]) -> list[int]:
     return sorted(found)
 
 
-def points_into(words: list[int], places: list[Range]) -> bool:
+def points_into(words: list[int], places: Iterable[Range]) -> bool:
     """Whether one of the words, which ascend, is an address in one of the places, or that after it: a call may be the
     last instruction."""
     for place in places:
@@ -409,24 +415,52 @@ def points_into(words: list[int], places: list[Range]) -> bool:
     return False
 
 
+def with_mapped_code(core: Core, words: list[int]) -> Wanted:
+    """Wants each module of which something was mapped that can be run, and others that a word points into."""
+    code = [Range(memory.address, memory.address + memory.size) for memory in core.memories if memory.executable]
+
+    def wanted(places: Sequence[Range]) -> bool:
+        return points_into(words, places) or any(
+            place.start < mapped.end and mapped.start < place.end for place in places for mapped in code
+        )
+
+    return wanted
+
+
+def within_size(loaded: list[Loaded], words: list[int]) -> list[Loaded]:
+    """The modules that a word points into and, while all tables have no more bytes than are taken, the others in order."""
+    pointed = [points_into(words, one.module.code) for one in loaded]
+    size = sum(len(one.table.content) for one, is_pointed in zip(loaded, pointed) if is_pointed)
+    found = []
+    for one, is_pointed in zip(loaded, pointed):
+        if not is_pointed:
+            if size + len(one.table.content) > MOST_TABLE_BYTES:
+                say(f"leaves out {one.module.name}: no stack points into it, and all tables would pass {MOST_TABLE_BYTES} bytes")
+                continue
+            size += len(one.table.content)
+        found.append(one)
+    return found
+
+
 # ---- the file
 
 
-def taken_of(core: Core, source: Source, most: int | None) -> Taken:
-    """What is taken of a core. Lines say what is missing."""
+def taken_of(core: Core, source: Source, most: int | None, *, every_module: bool = False) -> Taken:
+    """What is taken of a core: the tables of every module, or of those alone that walks can ask. Lines say what is missing."""
     threads = core.threads()
     cut = core.cut_line()
     if cut is not None:
         say(cut)
     stacks = stacks_of(core, threads, most)
-    wanted = words_of(threads, stacks)
+    words = words_of(threads, stacks)
+    wanted = with_mapped_code(core, words) if every_module else functools.partial(points_into, words)
     if core.mapped():
         loaded, code = file_modules(core, source, wanted)
     else:
         places = ", ".join(str(place) for place in core.note_ranges)
         say(f"its segments of notes ({places}) have no whole note NT_FILE, which says which files were mapped")
         loaded, code = list(program_by_entry(core, source, wanted)), []
-    return Taken(threads, stacks, loaded + list(system_modules(core, wanted)), code)
+    return Taken(threads, stacks, within_size(loaded + list(system_modules(core, wanted)), words), code)
 
 
 def text_path(path: str) -> str:
@@ -492,7 +526,7 @@ def main() -> None:
     try:
         core = opened_core(options.core)
         check_program(options.program)
-        taken = taken_of(core, Source(options.program, options.root), options.stack_bytes)
+        taken = taken_of(core, Source(options.program, options.root), options.stack_bytes, every_module=True)
         for one in taken.loaded:
             say(f"{taken_line(one.module, '')}, build id {one.module.build_id}")
         say(f"{len(taken.threads)} threads, {sum(len(stack.content) for stack in taken.stacks)} bytes of stacks")

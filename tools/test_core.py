@@ -7,6 +7,7 @@ needed, it is built here, and readelf says what is expected.
 from __future__ import annotations
 
 import contextlib
+import functools
 import io
 import json
 import os
@@ -21,13 +22,15 @@ import unittest
 from unittest import mock
 
 from core import (
-    Source, apart, biases_of, bounded, code_of_no_file, common_size, file_modules, frame_table, interrupted_pointers, points_into,
-    program_name, stacks_of, words_of,
+    MOST_TABLE_BYTES, Loaded as LoadedModule, Source, apart, biases_of, bounded, code_of_no_file, common_size, file_modules,
+    frame_table, interrupted_pointers, points_into, program_name, stacks_of, with_mapped_code, within_size, words_of,
 )
 from core_backtrace import Options, read_words
 from core_image import Core, Mapped, Memory, core_with, mapped_of, notes_of
 from core_names import Loaded, ThreadStart, Walk, ending_of, frames_of, walk_of, walks_of
 from elf_image import ElfImage, Range, Refused
+from loaded_module import Module
+from snapshot_file import Region
 
 # e_ident: class 64, lowest byte first; e_type CORE, e_machine x86-64, e_phoff 64, e_ehsize 64, two headers of 56 bytes
 HAND_HEADER = (
@@ -187,6 +190,28 @@ class StacksTest(unittest.TestCase):
         self.assertTrue(points_into(words, [Range(0x0807060504030201, 0x0807060504030202)]))
         self.assertFalse(points_into(words, [Range(0x402000, 0x403000)]))
 
+    def test_modules_whose_code_was_mapped(self) -> None:
+        """By the gABI's flags of a segment, of which 1 says that it can be run: 0x7000 to 0x7020."""
+        core = core_of(HAND[:120] + struct.pack("<IIQQQQQQ", 1, 5, 532, 0x7000, 0, 16, 32, 0) + HAND[176:])
+        wanted = with_mapped_code(core, [0x9000])
+        self.assertTrue(wanted([Range(0x5000, 0x6000), Range(0x701F, 0x8000)]))
+        self.assertTrue(wanted([Range(0x9000, 0x9001)]))
+        self.assertFalse(wanted([Range(0x6000, 0x7000), Range(0x7020, 0x8000)]))
+        self.assertFalse(with_mapped_code(core_of(HAND), [])([Range(0x7000, 0x7020)]))
+
+    def test_tables_have_a_common_size(self) -> None:
+        def module(start: int, size: int) -> LoadedModule:
+            table = Region(start + 0x1000, bytes(size))
+            place = Range(table.start, table.start + size)
+            return LoadedModule(Module(f"{start:x}", 0, None, [Range(start, start + 16)], place, None, [], []), table)
+
+        large, small = module(0x10000000, MOST_TABLE_BYTES), module(0x20000000, 1)
+        self.assertEqual(within_size([small, small], []), [small, small])
+        with contextlib.redirect_stderr(io.StringIO()) as said:
+            self.assertEqual(within_size([small, large], [large.module.code[0].start]), [large])
+            self.assertEqual(within_size([large, small], [small.module.code[0].start]), [small])
+        self.assertIn("leaves out 20000000: no stack points into it", said.getvalue())
+
 
 @unittest.skipUnless(shutil.which("gcc") and shutil.which("readelf"), "gcc or readelf isn't installed")
 class ModulesTest(unittest.TestCase):
@@ -239,7 +264,7 @@ class ModulesTest(unittest.TestCase):
         bias = 0x555500000000
         core, entry = self.moved(bias)
         self.assertEqual(program_name(core, core.mapped()), "/nonexistent/program")
-        (found,), code = file_modules(core, Source(self.file), [entry])
+        (found,), code = file_modules(core, Source(self.file), functools.partial(points_into, [entry]))
         self.assertEqual((found.module.bias, found.table.start, code), (bias, bias + self.table[0], []))
 
     def test_program_without_a_table(self) -> None:
@@ -247,7 +272,7 @@ class ModulesTest(unittest.TestCase):
         subprocess.run(["objcopy", "--remove-section=.eh_frame", self.file], check=True)
         core, entry = self.moved(0x555500000000)
         with contextlib.redirect_stderr(io.StringIO()):
-            loaded, code = file_modules(core, Source(self.file), [entry])
+            loaded, code = file_modules(core, Source(self.file), functools.partial(points_into, [entry]))
         self.assertEqual((loaded, {entry["path"] for entry in code}), ([], {os.path.realpath(self.file)}))
         self.assertTrue(all(entry["program"] for entry in code))
         self.assertTrue(any(int(piece["start"], 16) <= entry < int(piece["end"], 16) for piece in code))
