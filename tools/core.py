@@ -15,9 +15,9 @@ at most 16 MiB: longer ones are taken up to a common size, or up to --stack-byte
 The modules are the files that the core's note NT_FILE says were mapped, read from disk (below --root, where it is given),
 and the one that the system maps, read from the core. PROGRAM is the program's file, wherever it lies now. Of each module
 the `.eh_frame` is taken at the address at which it lay, since cores leave out what wasn't written to. A file whose build
-id isn't the one in the core is refused if it is PROGRAM, and else left out. All tables together have at most 8 MiB, but
-for those of modules that a word of the stacks or a register points into, which are always taken: return addresses are
-such words.
+id isn't the one in the core is refused if it is PROGRAM, and else left out. Modules that a word of the stacks or a
+register points into come first, since return addresses are such words; the others are taken while stacks and tables have
+no more than 16 MiB together.
 
 Wants nothing but Python (tried: 3.11).
 """
@@ -25,14 +25,13 @@ from __future__ import annotations
 
 import array
 import bisect
-import functools
 import io
 import os
 import re
 import signal
 import struct
 import sys
-from typing import BinaryIO, Callable, Iterable, Iterator, NamedTuple, Sequence
+from typing import BinaryIO, Iterable, Iterator, NamedTuple, Sequence
 
 from core_image import AT_ENTRY, AT_SYSINFO_EHDR, Core, Mapped, Thread, core_with
 from elf_image import PAGE, SEGMENT_LOADED, WORD, ElfImage, Range, Refused, Segment, build_id_of
@@ -40,7 +39,7 @@ from frame_table import Table, frame_table_of_header
 from loaded_module import Module, module_objects, taken_line
 from snapshot_file import MOST_STATES, Object, Region, joined_regions, region_object, text_of, write_whole
 
-RED_ZONE, MOST_STACK_BYTES, MOST_TABLE_BYTES = 128, 16 * 2**20, 8 * 2**20
+RED_ZONE, MOST_STACK_BYTES, MOST_BYTES_WITH_ALL_TABLES = 128, 16 * 2**20, 16 * 2**20
 SEGMENT_FRAME_HEADER, FRAME_HEADER_SIZE, ENTRY_OFFSET = 0x6474E550, 12, 24
 # What a mapping that no file has is called: nothing, or of a compiler at run time that maps its code twice so.
 OF_NO_FILE = re.compile(r"^$|^/memfd:|^\[anon")
@@ -69,6 +68,26 @@ class Source(NamedTuple):
     root: str = ""
 
 
+class Wanted(NamedTuple):
+    """Which modules are taken: those that one of the words, which ascend, points into, or every one."""
+
+    words: Sequence[int]
+    every: bool = False
+
+    def points_into(self, places: Iterable[Range]) -> bool:
+        """Whether one of the words is an address in one of the places, or that after it: a call may be the last
+        instruction."""
+        for place in places:
+            index = bisect.bisect_left(self.words, place.start)
+            if index < len(self.words) and self.words[index] <= place.end:
+                return True
+        return False
+
+    def takes(self, places: Iterable[Range]) -> bool:
+        """Whether a module is taken that lies at these places."""
+        return self.every or self.points_into(places)
+
+
 class Modules(NamedTuple):
     """What is taken of the files that are mapped, and what is said of code of which none has a table."""
 
@@ -83,10 +102,6 @@ class Taken(NamedTuple):
     stacks: list[Region]
     loaded: list[Loaded]
     code: Sequence[Object] = ()
-
-
-# Whether a module is wanted of which something lies at these places.
-Wanted = Callable[[Sequence[Range]], bool]
 
 
 def say(line: str) -> None:
@@ -284,7 +299,7 @@ def modules_at(core: Core, path: str, name: str, parts: list[Mapped], wanted: Wa
         found = []
         for bias in biases_of(image, parts):
             check_same(core, image, bias)
-            if wanted(image.code_ranges(bias)):
+            if wanted.takes(image.code_ranges(bias)):
                 found.append(loaded_at(image, name, bias))
         return found
 
@@ -309,20 +324,23 @@ def file_modules(core: Core, source: Source, wanted: Wanted) -> Modules:
     program = program_name(core, mapped)
     found = Modules([], code_of_no_file(core, mapped))
     for name, parts in by_file([part for part in mapped if not OF_NO_FILE.match(part.name)], program).items():
-        if name != program and not wanted([part.place for part in parts]):
+        is_asked = name == program or wanted.points_into(part.place for part in parts)
+        if not is_asked and not wanted.every:
             continue
         path = source.program if name == program else source.root + name
         shown = os.path.realpath(path) if name == program else name
         try:
             found.loaded.extend(modules_at(core, path, shown, parts, wanted))
         except WithoutTable as reason:
-            say(f"leaves out {path}: {reason}")
-            found.code.extend(code_of_file(path, shown, parts, name == program))
+            if is_asked:
+                say(f"leaves out {path}: {reason}")
+                found.code.extend(code_of_file(path, shown, parts, name == program))
         except FAULTS as error:
             reason = error.strerror if isinstance(error, OSError) else error
             if name == program:
                 raise Refused(f"{path} can't be taken as the program, which was {name}: {reason}")
-            say(f"leaves out {path}: {reason}")
+            if is_asked:
+                say(f"leaves out {path}: {reason}")
     return found
 
 
@@ -363,7 +381,7 @@ def program_by_entry(core: Core, source: Source, wanted: Wanted) -> Iterator[Loa
     with open(source.program, "rb") as stream:
         image = ElfImage(stream)
         bias = (entry - int.from_bytes(image.bytes_at(ENTRY_OFFSET, 8), "little")) % WORD
-        if wanted(image.code_ranges(bias)):
+        if wanted.takes(image.code_ranges(bias)):
             check_same(core, image, bias)
             yield loaded_at(image, os.path.realpath(source.program), bias)
 
@@ -384,7 +402,7 @@ def system_modules(core: Core, wanted: Wanted) -> Iterator[Loaded]:
         if found is not None:
             image, address = found
             bias = (address - loaded_segments(image)[0].address) % WORD
-            if wanted(image.code_ranges(bias)):
+            if wanted.takes(image.code_ranges(bias)):
                 yield loaded_at(image, f"system-supplied DSO at {address:#x}", bias)
     except FAULTS as error:
         say(f"leaves out what the system maps: {error}")
@@ -405,40 +423,20 @@ def words_of(threads: Iterable[Thread], stacks: list[Region]) -> list[int]:
     return sorted(found)
 
 
-def points_into(words: list[int], places: Iterable[Range]) -> bool:
-    """Whether one of the words, which ascend, is an address in one of the places, or that after it: a call may be the
-    last instruction."""
-    for place in places:
-        index = bisect.bisect_left(words, place.start)
-        if index < len(words) and words[index] <= place.end:
-            return True
-    return False
-
-
-def with_mapped_code(core: Core, words: list[int]) -> Wanted:
-    """Wants each module of which something was mapped that can be run, and others that a word points into."""
-    code = [Range(memory.address, memory.address + memory.size) for memory in core.memories if memory.executable]
-
-    def wanted(places: Sequence[Range]) -> bool:
-        return points_into(words, places) or any(
-            place.start < mapped.end and mapped.start < place.end for place in places for mapped in code
-        )
-
-    return wanted
-
-
-def within_size(loaded: list[Loaded], words: list[int]) -> list[Loaded]:
-    """The modules that a word points into and, while all tables have no more bytes than are taken, the others in order."""
-    pointed = [points_into(words, one.module.code) for one in loaded]
-    size = sum(len(one.table.content) for one, is_pointed in zip(loaded, pointed) if is_pointed)
-    found = []
+def within_size(loaded: list[Loaded], wanted: Wanted, stack_bytes: int) -> list[Loaded]:
+    """The modules that a word points into and, while stacks and tables have no more bytes than are taken with all tables,
+    the others in order."""
+    pointed = [wanted.points_into(one.module.code) for one in loaded]
+    size = stack_bytes + sum(len(one.table.content) for one, is_pointed in zip(loaded, pointed) if is_pointed)
+    found, left_out = [], []
     for one, is_pointed in zip(loaded, pointed):
-        if not is_pointed:
-            if size + len(one.table.content) > MOST_TABLE_BYTES:
-                say(f"leaves out {one.module.name}: no stack points into it, and all tables would pass {MOST_TABLE_BYTES} bytes")
-                continue
-            size += len(one.table.content)
-        found.append(one)
+        if is_pointed or size + len(one.table.content) <= MOST_BYTES_WITH_ALL_TABLES:
+            size += 0 if is_pointed else len(one.table.content)
+            found.append(one)
+        else:
+            left_out.append(one.module.name)
+    if left_out:
+        say(f"leaves out the tables of modules that no stack points into, {len(left_out)}, first {left_out[0]}: {size} bytes are taken without")
     return found
 
 
@@ -452,15 +450,16 @@ def taken_of(core: Core, source: Source, most: int | None, *, every_module: bool
     if cut is not None:
         say(cut)
     stacks = stacks_of(core, threads, most)
-    words = words_of(threads, stacks)
-    wanted = with_mapped_code(core, words) if every_module else functools.partial(points_into, words)
+    wanted = Wanted(words_of(threads, stacks), every_module)
     if core.mapped():
         loaded, code = file_modules(core, source, wanted)
     else:
         places = ", ".join(str(place) for place in core.note_ranges)
         say(f"its segments of notes ({places}) have no whole note NT_FILE, which says which files were mapped")
         loaded, code = list(program_by_entry(core, source, wanted)), []
-    return Taken(threads, stacks, within_size(loaded + list(system_modules(core, wanted)), words), code)
+    loaded += system_modules(core, wanted)
+    size = sum(len(stack.content) for stack in stacks)
+    return Taken(threads, stacks, within_size(loaded, wanted, size), code)
 
 
 def text_path(path: str) -> str:

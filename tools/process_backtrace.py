@@ -11,14 +11,13 @@ PID is a process, or one of its threads. Lines on standard error say what is mis
 """
 from __future__ import annotations
 
-import functools
 import signal
 import sys
 from typing import NamedTuple
 
 from core import (
-    FAULTS, Modules, Taken, Wanted, WithoutTable, by_file, code_of_file, code_of_no_file, modules_at, points_into,
-    program_name, stacks_of, system_modules, words_of,
+    FAULTS, Modules, Taken, Wanted, WithoutTable, by_file, code_of_file, code_of_no_file, modules_at, program_name,
+    stacks_of, system_modules, words_of,
 )
 from core_image import Mapped, Thread
 from elf_image import Refused
@@ -54,7 +53,7 @@ def modules_of(process: Process, wanted: Wanted) -> Modules:
     program = program_name(process, mapped)
     found = Modules([], code_of_no_file(process, mapped))
     for name, parts in by_file(mapped, program).items():
-        if not wanted([part.place for part in parts]):
+        if not wanted.takes(part.place for part in parts):
             continue
         path = f"/proc/{process.number}/exe" if name == program else opened_path(process, parts[0])
         shown = name.removesuffix(DELETED)
@@ -96,7 +95,7 @@ def asked_threads(process: Process, number: int, all_threads: bool) -> list[Thre
 def taken_of(process: Process, threads: list[Thread]) -> Taken:
     """What is taken of a process that stands still."""
     stacks = stacks_of(process, threads, None)
-    modules = modules_of(process, functools.partial(points_into, words_of(threads, stacks)))
+    modules = modules_of(process, Wanted(words_of(threads, stacks)))
     if not modules.loaded and not modules.code:
         raise Refused("none of its files can be read")
     return Taken(threads, stacks, *modules)

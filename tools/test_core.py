@@ -7,7 +7,6 @@ needed, it is built here, and readelf says what is expected.
 from __future__ import annotations
 
 import contextlib
-import functools
 import io
 import json
 import os
@@ -22,8 +21,8 @@ import unittest
 from unittest import mock
 
 from core import (
-    MOST_TABLE_BYTES, Loaded as LoadedModule, Source, apart, biases_of, bounded, code_of_no_file, common_size, file_modules,
-    frame_table, interrupted_pointers, points_into, program_name, stacks_of, with_mapped_code, within_size, words_of,
+    MOST_BYTES_WITH_ALL_TABLES, Loaded as LoadedModule, Source, Wanted, apart, biases_of, bounded, code_of_no_file, common_size,
+    file_modules, frame_table, interrupted_pointers, program_name, stacks_of, within_size, words_of,
 )
 from core_backtrace import Options, read_words
 from core_image import Core, Mapped, Memory, core_with, mapped_of, notes_of
@@ -185,32 +184,27 @@ class StacksTest(unittest.TestCase):
 
     def test_words_that_point_into_code(self) -> None:
         core = core_of(HAND)
-        words = words_of(core.threads(), stacks_of(core, core.threads(), None))
-        self.assertTrue(points_into(words, [Range(0x401000, 0x402000)]))
-        self.assertTrue(points_into(words, [Range(0x0807060504030201, 0x0807060504030202)]))
-        self.assertFalse(points_into(words, [Range(0x402000, 0x403000)]))
+        wanted = Wanted(words_of(core.threads(), stacks_of(core, core.threads(), None)))
+        self.assertTrue(wanted.takes([Range(0x401000, 0x402000)]))
+        self.assertTrue(wanted.takes([Range(0x0807060504030201, 0x0807060504030202)]))
+        self.assertFalse(wanted.takes([Range(0x402000, 0x403000)]))
+        self.assertTrue(Wanted(wanted.words, every=True).takes([Range(0x402000, 0x403000)]))
 
-    def test_modules_whose_code_was_mapped(self) -> None:
-        """By the gABI's flags of a segment, of which 1 says that it can be run: 0x7000 to 0x7020."""
-        core = core_of(HAND[:120] + struct.pack("<IIQQQQQQ", 1, 5, 532, 0x7000, 0, 16, 32, 0) + HAND[176:])
-        wanted = with_mapped_code(core, [0x9000])
-        self.assertTrue(wanted([Range(0x5000, 0x6000), Range(0x701F, 0x8000)]))
-        self.assertTrue(wanted([Range(0x9000, 0x9001)]))
-        self.assertFalse(wanted([Range(0x6000, 0x7000), Range(0x7020, 0x8000)]))
-        self.assertFalse(with_mapped_code(core_of(HAND), [])([Range(0x7000, 0x7020)]))
-
-    def test_tables_have_a_common_size(self) -> None:
+    def test_tables_of_modules_without_frames_are_taken_within_a_size(self) -> None:
         def module(start: int, size: int) -> LoadedModule:
             table = Region(start + 0x1000, bytes(size))
             place = Range(table.start, table.start + size)
             return LoadedModule(Module(f"{start:x}", 0, None, [Range(start, start + 16)], place, None, [], []), table)
 
-        large, small = module(0x10000000, MOST_TABLE_BYTES), module(0x20000000, 1)
-        self.assertEqual(within_size([small, small], []), [small, small])
+        large, small = module(0x10000000, MOST_BYTES_WITH_ALL_TABLES), module(0x20000000, 1)
+        into_large, into_small = (Wanted([one.module.code[0].start], every=True) for one in (large, small))
+        self.assertEqual(within_size([small, large], Wanted([]), 0), [small])
+        self.assertEqual(within_size([large], Wanted([]), 0), [large])
         with contextlib.redirect_stderr(io.StringIO()) as said:
-            self.assertEqual(within_size([small, large], [large.module.code[0].start]), [large])
-            self.assertEqual(within_size([large, small], [small.module.code[0].start]), [small])
-        self.assertIn("leaves out 20000000: no stack points into it", said.getvalue())
+            self.assertEqual(within_size([small, large], into_large, 0), [large])
+            self.assertEqual(within_size([large, small], into_small, 0), [small])
+            self.assertEqual(within_size([large, small], Wanted([]), 1), [small])
+        self.assertIn("leaves out the tables of modules that no stack points into, 1, first 20000000", said.getvalue())
 
 
 @unittest.skipUnless(shutil.which("gcc") and shutil.which("readelf"), "gcc or readelf isn't installed")
@@ -264,7 +258,7 @@ class ModulesTest(unittest.TestCase):
         bias = 0x555500000000
         core, entry = self.moved(bias)
         self.assertEqual(program_name(core, core.mapped()), "/nonexistent/program")
-        (found,), code = file_modules(core, Source(self.file), functools.partial(points_into, [entry]))
+        (found,), code = file_modules(core, Source(self.file), Wanted([entry]))
         self.assertEqual((found.module.bias, found.table.start, code), (bias, bias + self.table[0], []))
 
     def test_program_without_a_table(self) -> None:
@@ -272,7 +266,7 @@ class ModulesTest(unittest.TestCase):
         subprocess.run(["objcopy", "--remove-section=.eh_frame", self.file], check=True)
         core, entry = self.moved(0x555500000000)
         with contextlib.redirect_stderr(io.StringIO()):
-            loaded, code = file_modules(core, Source(self.file), functools.partial(points_into, [entry]))
+            loaded, code = file_modules(core, Source(self.file), Wanted([entry]))
         self.assertEqual((loaded, {entry["path"] for entry in code}), ([], {os.path.realpath(self.file)}))
         self.assertTrue(all(entry["program"] for entry in code))
         self.assertTrue(any(int(piece["start"], 16) <= entry < int(piece["end"], 16) for piece in code))
