@@ -183,8 +183,10 @@ fn hold_address(parts: &[SegmentPlace], address: u64) -> bool
 }
 
 /// Which parts of a core's memory are read for its threads: of the segment that holds a thread's stack
-/// pointer that from 4,096 bytes below the pointer on, at most `size` bytes. A thread whose stack
-/// pointer lies in a part for an earlier thread has none of its own.
+/// pointer that from 4,096 bytes below the pointer on, or from the segment's start where that is
+/// nearer, at most `size` bytes. A thread whose stack pointer lies in a part for an earlier thread has
+/// none of its own, and so has one whose stack pointer lies in no segment, or in one that shares an
+/// address with a table.
 ///
 /// # Errors
 ///

@@ -23,7 +23,8 @@ pub fn is_unmapped(error: DeliverError) -> bool
 /// The walks of threads over a space, as [`walks_of_threads`](crate::walks_of_threads) writes them,
 /// where none of them met something that isn't mapped. `None` where one did.
 ///
-/// Over a part of the memory that holds the tables of all modules these are the walks over all of it.
+/// Over a part of the memory that holds the frame tables of all modules, which are ELF files, these are
+/// the walks over all of it.
 ///
 /// # Errors
 ///

@@ -208,7 +208,8 @@ pub fn named_walks_of_threads<F: Files>(
 
 /// The same, where none of the walks met something that isn't mapped. `None` where one did.
 ///
-/// Over a part of the memory that holds the tables of all modules these are the walks over all of it.
+/// Over a part of the memory that holds the frame tables of all modules, which are ELF files, these are
+/// the walks over all of it.
 ///
 /// # Errors
 ///

@@ -11,8 +11,8 @@ use std::mem;
 /// The most bytes of a record.
 const RECORD_SIZE: u64 = 65_535;
 
-/// The records of a perf.data file one at a time, as its bytes are read from a source. At most a
-/// record and two pieces of 131,072 bytes are held, beside what stood before the records.
+/// The records of a perf.data file one at a time, as its bytes are read from a source. At most two
+/// records and three pieces of 131,072 bytes are held, beside what stood before the records.
 ///
 /// Each call is given the same source.
 #[derive(Drop)]

@@ -240,8 +240,8 @@ fn decide<I: Source>(alloc: Global, words: &Words, tables: &[u8], input: &mut I)
 /// after another, or why there are none. `tables` are the bytes of the file that the words name.
 ///
 /// The input is read to its end, and not at all where the words name no file. A perf.data file whose
-/// attributes stand before its records is held a record and two pieces at a time; another is held
-/// whole. The checks go in this order: words, reading, JSON, snapshot, perf.data, writing. Running
+/// attributes stand before its records is held two records and three pieces at a time at most; another
+/// is held whole. The checks go in this order: words, reading, JSON, snapshot, perf.data, writing. Running
 /// out of memory at any of them is `Memory`.
 pub fn run<I: Source, O: Sink>(
     alloc: Global,

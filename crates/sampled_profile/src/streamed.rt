@@ -203,7 +203,8 @@ fn profile_of_bytes(
 /// The profile of a perf.data file that is read from a source: what
 /// [`profile_of`](crate::profile_of) gives of all of its bytes.
 ///
-/// A record and two pieces are held at a time, beside the distinct stacks and the names of threads.
+/// At most two records and three pieces of 131,072 bytes are held at a time, beside the distinct stacks
+/// and the names of threads.
 ///
 /// # Errors
 ///
