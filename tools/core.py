@@ -29,6 +29,7 @@ import io
 import os
 import re
 import signal
+import stat
 import struct
 import sys
 from typing import BinaryIO, Iterable, Iterator, NamedTuple, Sequence
@@ -282,14 +283,21 @@ def check_same(core: Core, image: ElfImage, bias: int) -> None:
         raise Refused(f"it isn't the file that was loaded: {ids}")
 
 
+def regular_file(path: str) -> BinaryIO:
+    """A file. A device may be mapped, too, and to read one may never end."""
+    if not stat.S_ISREG(os.stat(path).st_mode):
+        raise Refused("it is no regular file")
+    return open(path, "rb")
+
+
 def opened_file(path: str) -> BinaryIO:
     """A file that was mapped. The system says so of one that was deleted, which may be there again."""
     try:
-        return open(path, "rb")
+        return regular_file(path)
     except FileNotFoundError:
         if not path.endswith(" (deleted)"):
             raise
-        return open(path.removesuffix(" (deleted)"), "rb")
+        return regular_file(path.removesuffix(" (deleted)"))
 
 
 def modules_at(core: Core, path: str, name: str, parts: list[Mapped], wanted: Wanted) -> list[Loaded]:
@@ -318,6 +326,11 @@ def by_file(mapped: list[Mapped], program: str | None) -> dict[str, list[Mapped]
     return found
 
 
+def has_code(core: Core, parts: list[Mapped]) -> bool:
+    """Whether by the core's segments one of the parts could be run."""
+    return any(memory.executable and part.place.contains(memory.address) for part in parts for memory in core.memories)
+
+
 def file_modules(core: Core, source: Source, wanted: Wanted) -> Modules:
     """The modules of the files that were mapped, the program's first. Its own file has to be the one that was loaded."""
     mapped = core.mapped()
@@ -339,7 +352,7 @@ def file_modules(core: Core, source: Source, wanted: Wanted) -> Modules:
             reason = error.strerror if isinstance(error, OSError) else error
             if name == program:
                 raise Refused(f"{path} can't be taken as the program, which was {name}: {reason}")
-            if is_asked:
+            if is_asked or has_code(core, parts):
                 say(f"leaves out {path}: {reason}")
     return found
 
