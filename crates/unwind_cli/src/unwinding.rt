@@ -24,8 +24,8 @@ const SHORT_STACK: usize = 8192;
 
 const FEW_FRAMES: usize = 128;
 
-// And at most this many where the header is longer than the stack: a search costs as much as the
-// index of one description, for which a header has eight bytes, and a frame takes no fewer of the
+// And at most this many where the longest header is longer than the stack: a search costs as much as
+// the index of one description, for which a header has eight bytes, and a frame takes no fewer of the
 // stack.
 const FEW_BY_HEADER: usize = 1024;
 
@@ -74,31 +74,43 @@ fn are_shorter(image: &MemoryImage<'_>, modules: &[Module], bytes: usize) -> boo
     true
 }
 
-/// How many bytes are mapped from the header on that the module of the start names, 0 where it
-/// names none.
-fn header_len(space: &Space<'_>, start: &Context) -> usize {
-    let Some(module) = space.module_at(start.ra) else {
-        return 0;
-    };
+/// How many bytes are mapped from the header on that a module names, 0 where it names none.
+fn header_len(image: &MemoryImage<'_>, module: &Module) -> usize {
     let ModuleTables::Elf(tables) = module.tables else {
         return 0;
     };
     match tables.kind {
         FrameInfoKind::EhFrame(_) => 0,
-        FrameInfoKind::EhFrameHdr(header) => space.image().bytes_from(header).len(),
+        FrameInfoKind::EhFrameHdr(header) => image.bytes_from(header).len(),
     }
 }
 
+/// The length of the longest header that a module of a snapshot names, 0 where the module of the start
+/// names none.
+fn longest_header(space: &Space<'_>, snapshot: &Snapshot) -> usize {
+    let image = space.image();
+    let Some(module) = space.module_at(snapshot.start().ra) else {
+        return 0;
+    };
+    let mut longest = header_len(image, &module);
+    if longest == 0 {
+        return 0;
+    }
+    for module in snapshot.modules() {
+        longest = longest.max(header_len(image, module));
+    }
+    longest
+}
+
 /// How many frames of a snapshot's stack are searched for before modules are prepared, where each
-/// is searched for so often: none of a stack that is long and no shorter than the header of the
-/// start's module, or where the tables are short beside it. They are no more than the region of the
-/// stack pointer has room for: a stack has more that loops, or that goes on in another region.
+/// is searched for so often: none of a stack that is long and no shorter than the longest header, or
+/// where the tables are short beside it. They are no more than the region of the stack pointer has room
+/// for: a stack has more that loops, or that goes on in another region.
 fn searched_frames(space: &Space<'_>, snapshot: &Snapshot, searches: usize) -> u32 {
     let image = space.image();
-    let start = snapshot.start();
-    let stack = image.bytes_from(start.registers[RSP]).len();
+    let stack = image.bytes_from(snapshot.start().registers[RSP]).len();
     let most = stack / LEAST_FRAME + 1;
-    if stack < header_len(space, &start) {
+    if stack < longest_header(space, snapshot) {
         return most.min(FEW_BY_HEADER) as u32;
     }
     if stack >= SHORT_STACK {
@@ -197,8 +209,8 @@ fn prepared_delivery(
 }
 
 /// What is delivered of a snapshot by the rules of languages. Modules are prepared where its stack is
-/// long and no shorter than the header of the start's module, where it is long beside their tables,
-/// or where many states are met or many cleanups run.
+/// long and no shorter than the longest header, where it is long beside their tables, or where many
+/// states are met or many cleanups run.
 fn snapshot_delivery(
     alloc: Global,
     snapshot: &Snapshot,
@@ -272,7 +284,7 @@ fn prepared_states(
 }
 
 /// The states of a snapshot's stack. Modules are prepared where it is long and no shorter than the
-/// header of the start's module, where it is long beside their tables, or where it has many states.
+/// longest header, where it is long beside their tables, or where it has many states.
 ///
 /// # Errors
 ///
