@@ -18,16 +18,22 @@ use stack_snapshot::{SampledSnapshot, Snapshot, ThrownSnapshot};
 use std::alloc::{AllocError, Global};
 use unwind_arch::x86_64::{Context, RSP};
 
-// Of less stack than this at most `FEW_FRAMES` are searched for before modules are prepared: a
-// real frame takes some 64 bytes, and an index of a frame table costs as much as 40 scans of it.
+// Where frames are searched for in frame tables themselves, these are at most so many, of a stack that is
+// shorter than this: a real frame takes some 64 bytes, and an index costs as much as 26 scans of its table.
 const SHORT_STACK: usize = 8192;
 
 const FEW_FRAMES: usize = 128;
 
-// And at most this many where the longest header is longer than the stack: a search costs as much as
-// the index of one description, for which a header has eight bytes, and a frame takes no fewer of the
-// stack.
-const FEW_BY_HEADER: usize = 1024;
+// And at most so many where they are searched for by headers: a program may be long, and each search runs
+// it anew.
+const MANY_FRAMES: usize = 4096;
+
+// A search by a header costs as much as the index of some three descriptions, for each of which a header
+// has eight bytes.
+const HEADER_BY_FRAME: usize = 24;
+
+// To read so many bytes of the stack costs three times what the index of a byte of a header does.
+const STACK_BY_HEADER: usize = 12;
 
 // What a frame takes of the stack at least: its return address.
 const LEAST_FRAME: usize = 8;
@@ -74,50 +80,44 @@ fn are_shorter(image: &MemoryImage<'_>, modules: &[Module], bytes: usize) -> boo
     true
 }
 
-/// How many bytes are mapped from the header on that a module names, 0 where it names none.
-fn header_len(image: &MemoryImage<'_>, module: &Module) -> usize {
-    let ModuleTables::Elf(tables) = module.tables else {
-        return 0;
-    };
-    match tables.kind {
-        FrameInfoKind::EhFrame(_) => 0,
-        FrameInfoKind::EhFrameHdr(header) => image.bytes_from(header).len(),
+/// How many bytes the headers have that modules name, by what is mapped from them on. `None` where a
+/// module names a frame table alone, and where none names a header.
+fn headers_len(image: &MemoryImage<'_>, modules: &[Module]) -> Option<usize> {
+    let mut bytes: usize = 0;
+    for module in modules {
+        let ModuleTables::Elf(tables) = module.tables else {
+            continue;
+        };
+        let FrameInfoKind::EhFrameHdr(header) = tables.kind else {
+            return None;
+        };
+        bytes = bytes.saturating_add(image.bytes_from(header).len());
     }
+    if bytes == 0 { None } else { Some(bytes) }
 }
 
-/// The length of the longest header that a module of a snapshot names, 0 where the module of the start
-/// names none.
-fn longest_header(space: &Space<'_>, snapshot: &Snapshot) -> usize {
-    let image = space.image();
-    let Some(module) = space.module_at(snapshot.start().ra) else {
-        return 0;
-    };
-    let mut longest = header_len(image, &module);
-    if longest == 0 {
-        return 0;
-    }
-    for module in snapshot.modules() {
-        longest = longest.max(header_len(image, module));
-    }
-    longest
-}
-
-/// How many frames of a snapshot's stack are searched for before modules are prepared, where each
-/// is searched for so often: none of a stack that is long and no shorter than the longest header, or
-/// where the tables are short beside it. They are no more than the region of the stack pointer has room
-/// for: a stack has more that loops, or that goes on in another region.
+/// How many frames of a snapshot's stack are searched for before modules are prepared. By headers
+/// these are as many as their indexes cost. By frame tables they are a few, of a short stack, where each
+/// is searched for so often. There are none of a stack that is long beside the headers or the tables,
+/// and no more than the region of the stack pointer has room for: a stack has more that loops, or that
+/// goes on in another region.
 fn searched_frames(space: &Space<'_>, snapshot: &Snapshot, searches: usize) -> u32 {
     let image = space.image();
+    let modules = snapshot.modules();
     let stack = image.bytes_from(snapshot.start().registers[RSP]).len();
     let most = stack / LEAST_FRAME + 1;
-    if stack < longest_header(space, snapshot) {
-        return most.min(FEW_BY_HEADER) as u32;
+    if let Some(bytes) = headers_len(image, modules) {
+        if stack / STACK_BY_HEADER >= bytes {
+            return 0;
+        }
+        let worth = bytes / HEADER_BY_FRAME;
+        return most.min(worth).min(MANY_FRAMES) as u32;
     }
     if stack >= SHORT_STACK {
         return 0;
     }
     let bytes = stack.saturating_mul(searches) / STACK_BY_TABLE;
-    if are_shorter(image, snapshot.modules(), bytes) {
+    if are_shorter(image, modules, bytes) {
         0
     } else {
         most.min(FEW_FRAMES) as u32
@@ -209,8 +209,7 @@ fn prepared_delivery(
 }
 
 /// What is delivered of a snapshot by the rules of languages. Modules are prepared where its stack is
-/// long and no shorter than the longest header, where it is long beside their tables, or where many
-/// states are met or many cleanups run.
+/// long beside their headers or tables, or where many states are met or many cleanups run.
 fn snapshot_delivery(
     alloc: Global,
     snapshot: &Snapshot,
@@ -283,8 +282,8 @@ fn prepared_states(
     walk(alloc, space, start, interrupted, limit)
 }
 
-/// The states of a snapshot's stack. Modules are prepared where it is long and no shorter than the
-/// longest header, where it is long beside their tables, or where it has many states.
+/// The states of a snapshot's stack. Modules are prepared where it is long beside their headers or
+/// tables, or where it has many states.
 ///
 /// # Errors
 ///
