@@ -10,7 +10,8 @@ each of its bytes is the core's at the same address. A walk that asks for anythi
 A stack begins with the red zone below a thread's RSP, or at the segment after it where the stack has overflowed, and
 goes on to the segment's end or to where the thread's own block lies (its FS base), which is above the stack. Where a
 signal's frame on it says that the interrupted code has another stack, that one is taken too. All stacks together have
-at most 16 MiB: longer ones are taken up to a common size, or up to --stack-bytes.
+less than 16 MiB, those of the threads three quarters of it at most, and those of interrupted code three quarters of what
+is left: longer ones are taken up to a common size, or up to --stack-bytes.
 
 The modules are the files that the core's note NT_FILE says were mapped, read from disk (below --root, where it is given),
 and the one that the system maps, read from the core. PROGRAM is the program's file, wherever it lies now. Of each module
@@ -153,16 +154,17 @@ def apart(places: Iterable[Range]) -> list[Range]:
     return [place for place in clipped if place.start < place.end]
 
 
-def bounded(places: Iterable[Range], most: int | None) -> list[Range]:
-    """The fronts of stacks: of each at most that number of bytes after its red zone, and of all together what is taken at most."""
+def bounded(places: Iterable[Range], most: int | None, budget: int = MOST_STACK_BYTES) -> list[Range]:
+    """The fronts of stacks: of each at most that number of bytes after its red zone, and of all together no more than the
+    budget."""
     stacks = apart(places)
-    size = common_size([place.end - place.start for place in stacks], MOST_STACK_BYTES)
+    size = common_size([place.end - place.start for place in stacks], budget)
     if most is not None:
         size = min(size, most + RED_ZONE)
     cut = sum(place.end - place.start > size for place in stacks)
     if cut and most is None:
         say(f"{cut} of {len(stacks)} stacks are longer than {size} bytes, and are taken up to there")
-    return joined([Range(place.start, min(place.end, place.start + size)) for place in stacks])
+    return joined([Range(place.start, min(place.end, place.start + size)) for place in stacks if size > 0])
 
 
 def joined(places: list[Range]) -> list[Range]:
@@ -181,9 +183,12 @@ def stacks_of(core: Core, threads: list[Thread], most: int | None) -> list[Regio
     found: list[Region] = []
     places = [stack_above(core, thread.rsp, thread.fs_base) for thread in threads]
     say_missing(threads, places)
+    left = MOST_STACK_BYTES
     while any(places):
-        wanted = bounded([place for place in places if place is not None], most)
+        # Some is left for the stacks that signals interrupted, however long the threads' are.
+        wanted = bounded([place for place in places if place is not None], most, left * 3 // 4)
         new = [Region(place.start, core.bytes_of(place)) for place in wanted]
+        left -= sum(len(stack.content) for stack in new)
         found = joined_regions(found + new)
         pointers = {pointer for stack in new for pointer in interrupted_pointers(stack.content)}
         places = [stack_above(core, pointer, None) for pointer in pointers if not is_held(pointer, found)]
@@ -542,7 +547,7 @@ def main() -> None:
         for one in taken.loaded:
             say(f"{taken_line(one.module, '')}, build id {one.module.build_id}")
         say(f"{len(taken.threads)} threads, {sum(len(stack.content) for stack in taken.stacks)} bytes of stacks")
-        text = text_of(object_of(taken, options.limit))
+        text = text_of(object_of(taken, options.limit), advice="take less of each stack with --stack-bytes")
         if options.file is None:
             sys.stdout.write(text)
         else:

@@ -71,16 +71,16 @@ def joined_regions(regions: Iterable[Region]) -> list[Region]:
 REGION_TEXT = '  {{\n   "address": "{address}",\n   "bytes": "{bytes}"\n  }}'
 
 
-def text_of(found: Object, most: int | None = MOST_BYTES) -> str:
+def text_of(found: Object, most: int | None = MOST_BYTES, advice: str = "name fewer modules") -> str:
     """A snapshot's text, as `json` writes it with an indent of 1. Refuses one that is longer than
-    is taken: by `unwind_cli` so many bytes, and by `profile`, of its tables, any number. Its digits,
-    which need no escapes, are put in apart: the process waits."""
+    is taken, with advice: by `unwind_cli` so many bytes, and by `profile`, of its tables, any number.
+    Its digits, which need no escapes, are put in apart: the process waits."""
     text = json.dumps(found | {"regions": []}, indent=1) + "\n"
     if found["regions"]:
         regions = ",\n".join(REGION_TEXT.format(**region) for region in found["regions"])
         text = text.replace('"regions": []', f'"regions": [\n{regions}\n ]', 1)
     if most is not None and len(text) > most:
-        raise Refused(f"the snapshot would have {len(text)} bytes, and {most} are taken; name fewer modules")
+        raise Refused(f"the snapshot would have {len(text)} bytes, and {most} are taken; {advice}")
     return text
 
 

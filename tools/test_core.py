@@ -176,6 +176,23 @@ class StacksTest(unittest.TestCase):
         self.assertEqual(taken, [Range(0x1000, 0x200000 + 2**24 - 0x1FF000)])
         self.assertIn("1 of 2 stacks are longer", said.getvalue())
 
+    def test_stacks_that_signals_interrupted_have_a_part_of_the_same_size(self) -> None:
+        # three stacks of 16 MiB: a signal's frame on each but the last says where the next one stands
+        def stack(pointer: int) -> bytes:
+            frame = struct.pack("<3Q4H", pointer, 0x401000, 0x202, 0x33, 0, 0, 0x2B)
+            return bytes(256) + frame + bytes(2**24 - 256 - len(frame))
+
+        starts = [0x10000000, 0x20000000, 0x30000000]
+        memory = [(start, stack(after + 128)) for start, after in zip(starts, starts[1:] + [0x100])]
+        standing = HAND.replace(struct.pack("<Q", 0x7004), struct.pack("<Q", starts[0] + 128))
+        core = core_of(core_with(core_of(standing.replace(struct.pack("<Q", 0x7008), bytes(8))).threads(), memory))
+        with contextlib.redirect_stderr(io.StringIO()) as said:
+            taken = stacks_of(core, core.threads(), None)
+        sizes = [len(one.content) for one in taken]
+        self.assertEqual([one.start for one in taken], starts)
+        self.assertEqual(sizes, [12 * 2**20, 3 * 2**20, 3 * 2**18])
+        self.assertIn("1 of 1 stacks are longer than 12582912 bytes", said.getvalue())
+
     def test_interrupted_pointer(self) -> None:
         # `struct sigcontext_64`: RSP, RIP, flags, then CS 0x33, GS, FS and SS 0x2b
         frame = struct.pack("<3Q4H", 0x7FFC0000, 0x401000, 0x202, 0x33, 0, 0, 0x2B)

@@ -11,6 +11,10 @@ const CORE: &str = "0400";
 const HEADER: &str =
     "3e000100000000000000000000004000000000000000000000000000000000000000400038000200000000000000";
 
+/// The same, whose count doesn't stand in the header.
+const MANY_HEADERS: &str =
+    "3e00010000000000000000000000400000000000000000000000000000000000000040003800ffff000000000000";
+
 /// Notes from byte 176 on, and 16 bytes of memory at 0x7000.
 const SEGMENTS: &str =
     "0400000004000000b00000000000000000000000000000000000000000000000640100000000000000000000000\
@@ -28,6 +32,35 @@ const THREAD: &str =
     0000000000000000000000007000000000000000000000000000000000000000000000000000000000000000000\
     000000000000000000000000000000000000000000000000000000000000000000000000000";
 
+/// The same with two notes.
+const SEGMENTS_OF_TWO: &str =
+    "0400000004000000b00000000000000000000000000000000000000000000000c80200000000000000000000000\
+    0000004000000000000000100000006000000780300000000000000700000000000000000000000000000100000\
+    000000000010000000000000000100000000000000";
+
+/// Two segments of memory, both from 0x7000 on.
+const SHARED_SEGMENTS: &str =
+    "0100000004000000b00000000000000000700000000000000000000000000000640100000000000064010000000\
+    0000004000000000000000100000006000000140200000000000000700000000000000000000000000000100000\
+    000000000010000000000000000100000000000000";
+
+/// Notes of one byte less.
+const CUT_NOTES: &str =
+    "0400000004000000b00000000000000000000000000000000000000000000000630100000000000000000000000\
+    0000004000000000000000100000006000000140200000000000000700000000000000000000000000000100000\
+    000000000010000000000000000100000000000000";
+
+/// A thread with RSP 0x7008, whose return address would lie past the stack.
+const STRAY_THREAD: &str =
+    "050000005001000001000000434f524500000000000000000000000000000000000000000000000000000000000\
+    0000000000000000000000000000000000000000000000000000000000000000000000000000000000000000000\
+    0000000000000000000000000000000000000000000000000000000000000000000000000000000000000000000\
+    0000000000000000000000000000000000000000000000000000000000000000000000009000000000000000000\
+    0000000000000000000000000000000000000000000000000000000000000000000000000000000000000000000\
+    0000000000000000000000000000000000000000000000000000000000000000006104000000000000000000000\
+    0000000000000000000000087000000000000000000000000000000000000000000000000000000000000000000\
+    000000000000000000000000000000000000000000000000000000000000000000000000000";
+
 /// The stack, but for its last byte.
 const CUT_STACK: &str = "050000000000000000000000000000";
 
@@ -38,7 +71,7 @@ const TABLES: &str =
     \"modules\":[{\"kind\":\"elf\",\"start\":\"0x401000\",\"end\":\"0x401010\",\
     \"eh_frame\":\"0x500000\"}],";
 
-static CASES: [Case; 8] = [
+static CASES: [Case; 12] = [
     Case {
         words: &["core"],
         input: &[
@@ -103,6 +136,75 @@ static CASES: [Case; 8] = [
         ],
         number: 8,
         lines: &["refused: core header"],
+    },
+    // A thread whose walk is refused doesn't end the report: the next one follows.
+    Case {
+        words: &["core"],
+        input: &[
+            IDENT,
+            CORE,
+            HEADER,
+            SEGMENTS_OF_TWO,
+            STRAY_THREAD,
+            THREAD,
+            STACK,
+            TABLES,
+            "\"limit\":2}",
+        ],
+        number: 0,
+        lines: &[
+            "thread 0",
+            "refused: unmapped 0x7010",
+            "thread 1",
+            "frame 0 ra=0x401006 sp=0x7000 rbx=0x9 rbp=0x0 r12=0x0 r13=0x0 r14=0x0 r15=0x0",
+            "frame 1 ra=0x0 sp=0x7010 rbx=0x5 rbp=0x0 r12=0x0 r13=0x0 r14=0x0 r15=0x0",
+            "end",
+        ],
+    },
+    Case {
+        words: &["core"],
+        input: &[
+            IDENT,
+            CORE,
+            HEADER,
+            SHARED_SEGMENTS,
+            THREAD,
+            STACK,
+            TABLES,
+            "\"limit\":2}",
+        ],
+        number: 8,
+        lines: &["refused: core region 1"],
+    },
+    Case {
+        words: &["core"],
+        input: &[
+            IDENT,
+            CORE,
+            HEADER,
+            CUT_NOTES,
+            THREAD,
+            STACK,
+            TABLES,
+            "\"limit\":2}",
+        ],
+        number: 8,
+        lines: &["refused: core notes"],
+    },
+    Case {
+        words: &["core"],
+        input: &[
+            IDENT,
+            CORE,
+            MANY_HEADERS,
+            SEGMENTS,
+            THREAD,
+            STACK,
+            TABLES,
+            "\"limit\":2}",
+        ],
+        number: 8,
+        lines: &["refused: core many segments"],
     },
     // A refused core is reported before a faulty field after it, and a faulty core before that.
     Case {
