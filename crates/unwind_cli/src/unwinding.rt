@@ -32,7 +32,7 @@ const MANY_FRAMES: usize = 4096;
 // has eight bytes.
 const HEADER_BY_FRAME: usize = 24;
 
-// To read so many bytes of the stack costs three times what the index of a byte of a header does.
+// To read so many bytes of the stack costs twice what the index of one byte of a header does.
 const STACK_BY_HEADER: usize = 12;
 
 // What a frame takes of the stack at least: its return address.
