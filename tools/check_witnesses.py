@@ -40,10 +40,10 @@ REASONS = {
     "the header of a described module, as functions_by_a_header_are_described has one": """
         unwind_definitions.Module.IsHeaderTable""",
     "what a law concludes of a described function": "unwind_laws.Found.FindsFunction",
-    "an answer says it: of decide, add, add_next and turn, row_at and make, frame_at, module_asked, begin, advance": """
+    "an answer says it: of decide, add, add_next and turn, row_at and make, frame_at, module_asked, begin, advance, new": """
         command_ends.Verdicts.IsReadyOrFailed frame_rows.Begun.HasBegun frame_rows.Begun.HasBegunBefore
         frame_rows.Rows.IsRowOf frame_rows.Walks.IsWalking perf_data.Streams.IsFilled
-        stack_steps.FrameViews.IsFrameOf stack_steps.ModulesAsked.IsAsked""",
+        stack_steps.FrameViews.IsFrameOf stack_steps.MadeRows.AreMade stack_steps.ModulesAsked.IsAsked""",
     "the cause of an answer, which the clause beside says of the answer": """
         stack_deliver.Causes.EndsBy stack_deliver.Causes.EndsThrough stack_deliver.Causes.IsRefused
         stack_deliver.Causes.IsRefusedThrough stack_walks.Lines.NeedsMore stack_walks.Walking.StepFails""",

@@ -18,7 +18,9 @@ use crate::code::CodeRanges;
 use crate::pointers::{caller_by_pointer, is_without_table};
 use memory_image::{MemoryImage, NoLedger, Steps};
 use popped_registers::{KeptWalk, walk_interrupted};
-use stack_deliver::{Context, EndReason, Room, Space, walk_to_end_into};
+use stack_deliver::{
+    Context, EndReason, MadeRows, Room, Space, walk_to_end_into, walk_to_end_made,
+};
 use std::alloc::{AllocError, Global};
 use std::marker::Model;
 use unwind_arch::x86_64::RSP;
@@ -193,33 +195,59 @@ impl Trace {
     }
 }
 
+/// Walks a stack after a call into a room as far as it goes, and answers why it goes no further.
+fn walk_called(
+    alloc: Global,
+    space: &Space<'_>,
+    start: &Context,
+    limit: u32,
+    room: &mut Room,
+) -> Result<EndReason, AllocError>
+    requires { limit ≤ room.old.limit }
+    ensures states { IfOk result (λ _. room.new.visited ≡
+        contexts_to_end space.now limit start.now false) }
+    ensures why { IfOk result (λ why. ComesTo why space.now limit start.now false) }
+    ensures places { room.new.limit ≡ room.old.limit }
+{
+    let mut made = MadeRows::new(alloc)?;
+    let own = space.over_own_image();
+    let mut steps = Steps::new(NoLedger);
+    Ok(walk_to_end_made(&mut made, &own, start, false, limit, room, &mut steps))
+}
+
 /// Walks a stack from its start into a room as far as it goes, and answers why it goes no
 /// further. Where the thread was interrupted there, popped registers are kept, and the answer
 /// says whether any were.
+///
+/// # Errors
+///
+/// `AllocError` where there is no memory for rows.
 fn walk_from_start<'s, 't>(
+    alloc: Global,
     space: &'s Space<'t>,
     start: &Context,
     interrupted: bool,
     limit: u32,
     room: &mut Room,
-) -> KeptWalk
+) -> Result<KeptWalk, AllocError>
 where
     't: 's,
     requires { limit ≤ room.old.limit }
-    ensures states { room.new.visited ≡ contexts_to_end
-        (start_space space.now limit start.now interrupted) limit start.now interrupted }
-    ensures why { ComesTo result.why (start_space space.now limit start.now interrupted) limit
-        start.now interrupted }
-    ensures popped { result.popped ≡ keeps_popped space.now limit start.now interrupted }
+    ensures states { IfOk result (λ _. room.new.visited ≡ contexts_to_end
+        (start_space space.now limit start.now interrupted) limit start.now interrupted) }
+    ensures why { IfOk result (λ walk. ComesTo walk.why
+        (start_space space.now limit start.now interrupted) limit start.now interrupted) }
+    ensures popped { IfOk result (λ walk.
+        walk.popped ≡ keeps_popped space.now limit start.now interrupted) }
     ensures places { room.new.limit ≡ room.old.limit }
 {
     if interrupted {
         let image: &'s MemoryImage<'s> = space.image();
-        walk_interrupted(space, image, start, limit, room)
+        let mut made: MadeRows<'s> = MadeRows::new(alloc)?;
+        Ok(walk_interrupted(space, image, &mut made, start, limit, room))
     } else {
-        let mut steps = Steps::new(NoLedger);
-        let why = walk_to_end_into(space, start, false, limit, room, &mut steps);
-        KeptWalk { why, popped: false }
+        let why = walk_called(alloc, space, start, limit, room)?;
+        Ok(KeptWalk { why, popped: false })
     }
 }
 
@@ -247,9 +275,8 @@ pub fn trace_stack(
     let mut room = Room::new(alloc, limit)?;
     match called_from(space, code, start, interrupted) {
         Some(caller) => {
-            let mut steps = Steps::new(NoLedger);
             let most = limit.saturating_sub(1);
-            let why = walk_to_end_into(space, &caller, false, most, &mut room, &mut steps);
+            let why = walk_called(alloc, space, &caller, most, &mut room)?;
             Ok(Trace {
                 first: Some(*start),
                 room,
@@ -258,7 +285,7 @@ pub fn trace_stack(
             })
         }
         None => {
-            let walk = walk_from_start(space, start, interrupted, limit, &mut room);
+            let walk = walk_from_start(alloc, space, start, interrupted, limit, &mut room)?;
             Ok(Trace {
                 first: None,
                 room,

@@ -19,6 +19,8 @@ mod headers;
 #[cfg(test)]
 mod languages;
 #[cfg(test)]
+mod made_rows;
+#[cfg(test)]
 mod objects;
 #[cfg(test)]
 mod prepared;

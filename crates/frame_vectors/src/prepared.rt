@@ -9,12 +9,12 @@ use std::test::Fail;
 use unwind_arch::x86_64::{RBX, RSP};
 
 /// A frame table at 0x500000 with one function, 0x401000 to 0x401010, that pushes RBX.
-const TABLE: [u8; 52] =
+pub(crate) const TABLE: [u8; 52] =
     *b"\x14\0\0\0\0\0\0\0\x01zR\0\x01\x78\x10\x01\x1b\x0c\x07\x08\x90\x01\0\0\x14\0\0\0\x1c\0\0\0\
     \xe0\x0f\xf0\xff\x10\0\0\0\0\x41\x0e\x10\x83\x02\0\0\0\0\0\0";
 
 /// A header at 0x504000 that leads to the table, and lists the function.
-const HEADER: [u8; 20] =
+pub(crate) const HEADER: [u8; 20] =
     *b"\x01\x1b\x03\x3b\xfc\xbf\xff\xff\x01\0\0\0\0\xd0\xef\xff\x18\xc0\xff\xff";
 
 /// RBX 5, and the return address 0.

@@ -7,18 +7,21 @@ ghost use Rattle.unwind_arch.specs.declared.x86_64.Context.{Context};
 ghost use Rattle.stack_steps.specs.Frames.{FrameAt};
 ghost use Rattle.stack_steps.specs.FrameViews.{IsFrameOf};
 ghost use Rattle.stack_steps.specs.Growing.{Grows, over_image};
+ghost use Rattle.stack_steps.specs.MadeRows.{AreMade};
 ghost use Rattle.stack_steps.specs.Stepping.{frame_of};
 ghost use Rattle.stack_walks.specs.Lines.{line_of};
 ghost use Rattle.stack_walks.specs.WalkEnds.{ComesTo, contexts_to_end};
 ghost use Rattle.popped_registers.specs.KeptWalks.{IsKeptWalk, is_cut_at_start, popped_by_row};
 ghost use Rattle.popped_registers.specs.PoppedRegisters.{is_popped, kept_space, popped_among};
-ghost use Rattle.popped_registers.specs.PoppedRegisters.{popped_at, popped_by_rules};
+ghost use Rattle.popped_registers.specs.PoppedRegisters.{popped_at};
 
 use crate::popped::{cfa_of, popped_by, rule_of};
 use eh_frame::{Register, RowRef, RowRoom};
 use memory_image::{MemoryImage, NoLedger, Steps};
-use stack_steps::{DeliverError, FoundFrame, FrameCache, GrownSpace, Space, Stepped, Stepper};
-use stack_walks::{EndReason, Room, walk_to_end_cached, walk_to_end_over};
+use stack_steps::{
+    DeliverError, FoundFrame, FrameCache, GrownSpace, MadeRows, Space, Stepped, Stepper,
+};
+use stack_walks::{EndReason, Room, walk_to_end_cached, walk_to_end_made, walk_to_end_over};
 use unwind_arch::x86_64::{Context, RSP};
 
 /// Why a walk goes no further, and whether it kept popped registers.
@@ -73,6 +76,31 @@ where
     let grown = GrownSpace::new(space, image);
     let steps = &mut Steps::new(NoLedger);
     walk_to_end_over(&grown, start, true, limit, room, steps)
+}
+
+/// The same by the rows that were made before in modules that aren't prepared.
+fn walk_over_made<'s, 't>(
+    space: &'s Space<'t>,
+    image: &'s MemoryImage<'s>,
+    made: &mut MadeRows<'s>,
+    start: &Context,
+    limit: u32,
+    room: &mut Room,
+) -> EndReason
+where
+    't: 's,
+    requires within { limit ≤ room.old.limit }
+    requires grows { Grows space.now.image image.now }
+    requires made { AreMade (over_image space.now image.now) made.old }
+    ensures states { room.new.visited ≡
+        contexts_to_end (over_image space.now image.now) limit start.now true }
+    ensures why { ComesTo result (over_image space.now image.now) limit start.now true }
+    ensures no_cleanup { room.new.trail ≡ [] }
+    ensures places { room.new.limit ≡ room.old.limit }
+{
+    let grown = GrownSpace::new(space, image);
+    let steps = &mut Steps::new(NoLedger);
+    walk_to_end_made(made, &grown, start, true, limit, room, steps)
 }
 
 /// The same by the rows that a cache keeps.
@@ -278,9 +306,12 @@ fn is_cut_at_start(why: EndReason, room: &Room) -> bool
 /// mapped. There each of RBX, RBP, R12 to R15, RAX and RDX of which the row says that it lies in a slot
 /// below the stack pointer, and of whose slot not all bytes are mapped, counts as popped: its slot holds
 /// what the register holds, in this walk alone. Where any counts so, the answer is marked.
+///
+/// Frames at addresses whose rows stand in `made` need no search, but in a walk that keeps popped registers.
 pub fn walk_interrupted<'s, 't>(
     space: &'s Space<'t>,
     image: &'s MemoryImage<'s>,
+    made: &mut MadeRows<'s>,
     start: &Context,
     limit: u32,
     room: &mut Room,
@@ -289,6 +320,7 @@ where
     't: 's,
     requires within { limit ≤ room.old.limit }
     requires grows { Grows space.now.image image.now }
+    requires made { AreMade (over_image space.now image.now) made.old }
     // The states are those from the start outwards, over the memory that keeps popped registers.
     ensures states { room.new.visited ≡ contexts_to_end
         (kept_space (over_image space.now image.now) limit start.now) limit start.now true }
@@ -304,7 +336,7 @@ where
     ensures no_cleanup { room.new.trail ≡ [] }
     ensures places { room.new.limit ≡ room.old.limit }
 {
-    let why = walk_over(space, image, start, limit, room);
+    let why = walk_over_made(space, image, made, start, limit, room);
     if is_cut_at_start(why, room) {
         walk_with_popped(space, image, start, limit, room)
     } else {

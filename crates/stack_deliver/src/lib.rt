@@ -53,12 +53,12 @@ pub use fde_finders::{FrameInfo, FrameInfoKind};
 pub use outcome::{Delivery, Ending, Outcome};
 pub use resumes::{Resumes, first_entry_counts};
 pub use stack_steps::{
-    DeliverError, DescribedFunction, FrameCache, GrownSpace, Languages, MachoTables, Module,
-    ModuleTables, PeTables, Space, SpaceError, Stepped, step,
+    DeliverError, DescribedFunction, FrameCache, GrownSpace, Languages, MachoTables, MadeRows,
+    Module, ModuleTables, PeTables, Space, SpaceError, Stepped, step,
 };
 pub use stack_walks::{
     EndReason, Room, RowRoom, Trail, Visited, each_reason_is_given, walk, walk_into,
-    walk_to_end_cached, walk_to_end_into, walk_with_rows,
+    walk_to_end_cached, walk_to_end_into, walk_to_end_made, walk_with_rows,
 };
 pub use unwind_arch::x86_64::Context;
 pub use unwinding_frames::{CxxRuntime, Exception, ExceptionKind};

@@ -14,6 +14,7 @@ pub mod Growing
 pub mod HeaderFinds
 pub mod Holding
 pub mod IndexFinds
+pub mod Made
 pub mod Making
 pub mod ElfAnswers
 pub mod ElfFrames

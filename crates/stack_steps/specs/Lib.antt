@@ -9,6 +9,7 @@ pub mod Growing
 pub mod GrownSample
 pub mod AddedModule
 pub mod Macho
+pub mod MadeRows
 pub mod Modules
 pub mod ModulesAsked
 pub mod Pe

@@ -12,6 +12,7 @@ mod grown;
 mod languages;
 mod laws;
 mod macho;
+mod made_rows;
 mod pe;
 mod prepared;
 mod shared_table;
@@ -32,6 +33,7 @@ pub use laws::{
     a_frame_is_that_of_the_described_function, a_module_is_prepared, rust_alone_asks_by_rust,
 };
 pub use macho::CompactFrame;
+pub use made_rows::MadeRows;
 pub use pe::RecordedFrame;
 pub use prepared::PreparedTable;
 pub use space::{AddedModule, MachoTables, Module, ModuleTables, PeTables, Space, SpaceError};

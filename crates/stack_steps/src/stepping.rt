@@ -11,21 +11,24 @@ ghost use Rattle.frame_facts.specs.FactChains.{FactFrame, IsFactLink};
 ghost use Rattle.frame_facts.specs.SignalFrames.{SignalFrame, IsSignalLink};
 ghost use Rattle.unwind_arch.specs.ContextViews.{columns_of};
 ghost use Rattle.eh_frame.specs.Index.{AreFewSteps};
+ghost use Rattle.frame_rows.specs.Rows.{IsRowOf};
 ghost use Rattle.macho_unwind_info.specs.declared.error.Error.{Error as MachoFault};
 ghost use Rattle.format_definitions.specs.Calls.{IsDescribedCall};
 ghost use Rattle.format_definitions.specs.Stops.{IsDescribedStop};
 ghost use Rattle.stack_steps.specs.AddedModule.{IsAddedModule, added_of};
-ghost use Rattle.stack_steps.specs.Modules.{AreApart};
+ghost use Rattle.stack_steps.specs.MadeRows.{AreMade, IsMade};
+ghost use Rattle.stack_steps.specs.Modules.{AreApart, SpaceValue};
 ghost use Rattle.stack_steps.specs.ModulesAsked.{IsAsked};
 ghost use Rattle.stack_steps.specs.Preparing.{prepared_len};
 ghost use Rattle.stack_steps.specs.SpaceViews.{process_of, formats_of};
 ghost use Rattle.stack_steps.specs.FrameViews.{IsFrameOf, GivesFrameAt};
-ghost use Rattle.stack_steps.specs.Ticking.{IsScannedAt, RisesBySearch, TicksAt, TicksIn};
+ghost use Rattle.stack_steps.specs.Ticking.{IsScannedAt, RisesBySearch, RisesWithin, TicksAt, TicksIn};
 ghost use Rattle.stack_steps.specs.Ticking.{searched_at};
 ghost use Rattle.memory_image.specs.Results.{result_map};
 ghost use Rattle.stack_steps.specs.Growing.{advanced_to};
 ghost use Rattle.stack_steps.specs.Interrupting.{Interrupted};
-ghost use Rattle.stack_steps.specs.Frames.{FrameAt};
+ghost use Rattle.stack_steps.specs.Elf.{caller};
+ghost use Rattle.stack_steps.specs.Frames.{DescribedFrame, FrameAt};
 ghost use Rattle.stack_steps.specs.Stepping.{frame_in, frame_of, caller_by};
 ghost use Rattle.stack_steps.specs.Stepping.{step_of, GivesCaller, EndsAt, FaultsAt};
 ghost use Rattle.stack_steps.specs.Stepping.{ReadIsUnmapped};
@@ -37,6 +40,7 @@ use crate::elf;
 use crate::error::DeliverError;
 use crate::frames::{self, FoundFrame};
 use crate::grown::GrownSpace;
+use crate::made_rows::{MadeRow, MadeRows};
 use crate::prepared::PreparedTable;
 use crate::space::{AddedModule, Space};
 use eh_frame::RowRoom;
@@ -402,6 +406,134 @@ where
             Ok(None) => Ok(false),
             Err(error) => Err(*error),
         }
+    }
+}
+
+impl<'s, 't, 'a> Stepper<'s, 't, 'a>
+where
+    't: 'a,
+{
+    /// Puts the caller of the frame at a state in the state's place, as [`Stepper::advance`] does, by the
+    /// rows that were made before in modules that aren't prepared. A step by such a row counts none, and else
+    /// one search is counted, and a row is made in `rows`.
+    #[inline(always)]
+    pub fn advance_by_made<L: Ledger>(
+        &mut self,
+        made: &mut MadeRows<'a>,
+        state: &mut Stepped,
+        rows: &mut RowRoom<'a>,
+        steps: &mut Steps<L>,
+    ) -> Result<bool, DeliverError>
+        requires made { AreMade self.old made.old }
+        ensures step { result_map (advanced_to state.new) result ≡
+            step_of self.old state.old.context state.old.signal }
+        ensures stays { (result ≢ Ok true) → state.new ≡ state.old }
+        ensures ticks { RisesWithin self.old 1 steps.old.number steps.new.number }
+        ensures same { self.new ≡ self.old }
+        ensures made { AreMade self.old made.new }
+    {
+        if state.context.ra == 0 {
+            return Ok(false);
+        }
+        // Its regions are laid out, as the image's type says.
+        let _ = self.image();
+        let address = state.address();
+        let Some(added_module) = self.module_asked(&state.context, state.signal) else {
+            return Ok(false);
+        };
+        if added_module.is_prepared() {
+            return self.advance(state, steps);
+        }
+        if let Some(kept) = made.find(address) {
+            return self.advance_by_row(kept, state);
+        }
+        self.advance_by_making(added_module, made, state, rows, steps)
+    }
+
+    /// The same by a row that was made before at the address.
+    fn advance_by_row(
+        &mut self,
+        kept: &MadeRow<'_>,
+        state: &mut Stepped,
+    ) -> Result<bool, DeliverError>
+        requires returns { state.old.context.ra ≢ 0 }
+        requires made { IsMade self.old kept.now }
+        requires address { kept.now.address ≡
+            address_of_call state.old.context.ra state.old.signal }
+        ensures step { result_map (advanced_to state.new) result ≡
+            step_of self.old state.old.context state.old.signal }
+        ensures stays { (result ≢ Ok true) → state.new ≡ state.old }
+        ensures same { self.new ≡ self.old }
+    {
+        self.step_by_row(kept, state)?;
+        Ok(true)
+    }
+
+    /// Puts the caller by such a row in the state's place, by a copy of the registers, since a step may
+    /// have a fault after it has written some. After a fault the state is as before.
+    fn step_by_row(&mut self, kept: &MadeRow<'_>, state: &mut Stepped) -> Result<(), DeliverError>
+        ensures caller { (f : DescribedFrame) → IsRowOf kept.now.row f.run →
+            kept.now.signal ≡ f.found.fde.cie.letters.signal →
+            result_map (λ done. state.new) result ≡ caller self.old.image state.old.context f }
+        ensures stays { OnErr result (state.new ≡ state.old) }
+        ensures same { self.new ≡ self.old }
+    {
+        let callee = state.context.copied();
+        let row = kept.row.as_ref();
+        let left = elf::step_to_caller(&mut self.stack, &callee, &row, kept.signal, state);
+        if left.is_err() {
+            state.context = callee;
+        }
+        left
+    }
+
+    /// The same of a module that isn't prepared, by a search. The row that is made is kept.
+    #[inline(never)]
+    #[tactic(auto, unfolding(crate::specs::Stepping::step_of))]
+    fn advance_by_making<L: Ledger>(
+        &mut self,
+        added_module: &AddedModule<'t>,
+        made: &mut MadeRows<'a>,
+        state: &mut Stepped,
+        rows: &mut RowRoom<'a>,
+        steps: &mut Steps<L>,
+    ) -> Result<bool, DeliverError>
+        requires unprepared { is_some added_module.now.table ≡ false }
+        requires asked { IsAsked self.old state.old.context state.old.signal added_module.now }
+        requires made { AreMade self.old made.old }
+        ensures step { result_map (advanced_to state.new) result ≡
+            step_of self.old state.old.context state.old.signal }
+        ensures stays { (result ≢ Ok true) → state.new ≡ state.old }
+        ensures ticks { TicksAt self.old state.old.context state.old.signal steps.old.number
+            steps.new.number }
+        ensures same { self.new ≡ self.old }
+        ensures made { AreMade self.old made.new }
+    {
+        let mut place = None;
+        match self.searched_frame(added_module, state, &mut place, rows, steps) {
+            Ok(Some(frame)) => {
+                keep_row(made, state, &frame);
+                self.step_to_caller(state, &frame)?;
+                Ok(true)
+            }
+            Ok(None) => Ok(false),
+            Err(error) => Err(error),
+        }
+    }
+}
+
+/// Keeps the row of a frame that was found at a state, where a description was.
+fn keep_row<'a>(made: &mut MadeRows<'a>, state: &Stepped, frame: &FoundFrame<'_, 'a>)
+    ensures { (space : SpaceValue) →
+        GivesFrameAt (Ok (Some frame.now)) (frame_of space state.now.context state.now.signal) →
+        AreMade space made.old → AreMade space made.new }
+{
+    if let FoundFrame::Searched(searched) = frame {
+        made.keep(MadeRow {
+            address: state.address(),
+            signal: searched.found.fde.is_signal_trampoline(),
+            row: searched.row.to_row(),
+        });
     }
 }
 

@@ -34,3 +34,12 @@ due r answer e (inr same) is = inr (same ∙ is)
 pub granted : {A : Type 0} (r answer : Result A DeliverError) (x : A) (P : A → Type 0) → GivesUnlessNoMemory r answer → answer ≡ Ok x → P x → (r ≡ Err NoMemory) ⊎ IsOkAnd r P
 granted r answer x P (inl none) is p = inl none
 granted r answer x P (inr same) is p = let ok : r ≡ Ok x = same ∙ is in inr (rw ok p)
+
+-- a walk that may want memory
+pub ok_walked : {A : Type 0} (r : Result A DeliverError) (x : A) (room : RoomValue) (answer : Result (List Context) DeliverError) → r ≡ Ok x → (r ≡ Err NoMemory) ⊎ IsWalked r room answer → GivesUnlessNoMemory (Ok room.visited) answer
+ok_walked r x room answer is (inl memory) = absurd cc
+ok_walked r x room answer is (inr walked) = inr (sym (rw is at walked))
+
+pub err_walked : {A : Type 0} (r : Result A DeliverError) (e : DeliverError) (room : RoomValue) (answer : Result (List Context) DeliverError) → r ≡ Err e → (r ≡ Err NoMemory) ⊎ IsWalked r room answer → GivesUnlessNoMemory (Err e) answer
+err_walked r e room answer is (inl memory) = let same : e ≡ NoMemory = cc in inl (ap Err same)
+err_walked r e room answer is (inr walked) = inr (sym (rw is at walked))

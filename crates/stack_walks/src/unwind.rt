@@ -4,6 +4,7 @@ ghost use Rattle.std.specs.Prelude.{◌≡◌, ◌≤◌, ◌<◌, ◌*◌, Err,
 ghost use Rattle.std.specs.Prelude.{length, None, Some, Ok, OnErr, IfOk};
 ghost use Rattle.stack_walks.specs.FrameVisits.{stops, stop_of, past_arguments, visit_for, line_for};
 ghost use Rattle.stack_walks.specs.FrameVisits.{mark_at, enters};
+ghost use Rattle.stack_steps.specs.MadeRows.{AreMade};
 ghost use Rattle.stack_steps.specs.Languages.{selector_of};
 ghost use Rattle.stack_walks.specs.WalkEnds.{reached_by, turned_from, IsReached, UnwindsAsWalk};
 ghost use Rattle.stack_steps.specs.FrameViews.{GivesFrameAt, IsFrameOf};
@@ -21,8 +22,8 @@ use eh_frame::RowRoom;
 use fde_finders::FDESearchResult;
 use memory_image::{Ledger, MemoryImage, Steps};
 use stack_steps::{
-    DeliverError, FoundFrame, FrameAction, FrameCache, GrownSpace, Languages, Space, Stepped,
-    Stepper, frame_asks,
+    DeliverError, FoundFrame, FrameAction, FrameCache, GrownSpace, Languages, MadeRows, Space,
+    Stepped, Stepper, frame_asks,
 };
 use unwind_arch::x86_64::{Context, RAX, RDX, RSP};
 use unwinding_frames::frame_mark;
@@ -315,6 +316,38 @@ where
     for _ in 0..limit {
         record_visit(None, state, room);
         if !cache.advance(&mut stepper, state, steps)? {
+            return Ok(None);
+        }
+    }
+    Err(DeliverError::FrameLimit)
+}
+
+/// Goes from a state outwards as a walk does, by the rows that were made before in modules that aren't
+/// prepared, so that most frames at addresses whose rows are there need no search.
+pub(crate) fn unwind_frames_by_made<'t, 'a, L: Ledger>(
+    space: &GrownSpace<'_, 't, 'a>,
+    state: &mut Stepped,
+    limit: u32,
+    room: &mut Room,
+    made: &mut MadeRows<'a>,
+    steps: &mut Steps<L>,
+) -> Result<Option<Stop>, DeliverError>
+where
+    't: 'a,
+    requires within { limit ≤ room.old.limit }
+    requires empty { room.old.visited ≡ [] }
+    requires made { AreMade space.now made.old }
+    ensures walks { UnwindsAsWalk space.now limit state.old state.new room.old room.new result }
+    ensures ticks { RisesWithin space.now
+        (contexts_met None space.now limit state.old.context state.old.signal)
+        steps.old.number steps.new.number }
+    ensures made { AreMade space.now made.new }
+{
+    let mut stepper = Stepper::over(space, state.context.registers[RSP]);
+    let mut rows = RowRoom::new();
+    for _ in 0..limit {
+        record_visit(None, state, room);
+        if !stepper.advance_by_made(made, state, &mut rows, steps)? {
             return Ok(None);
         }
     }

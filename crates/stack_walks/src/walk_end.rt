@@ -21,17 +21,20 @@ ghost use Rattle.stack_walks.specs.Walking.{ShowChain, StartsChain};
 ghost use Rattle.stack_steps.specs.Modules.{SpaceValue};
 ghost use Rattle.stack_steps.specs.Elf.{FindsNone};
 ghost use Rattle.stack_steps.specs.Growing.{IsSeenOver};
+ghost use Rattle.stack_steps.specs.MadeRows.{AreMade};
 ghost use Rattle.stack_steps.specs.Stepping.{step_of, FindsNoneIn};
 ghost use Rattle.stack_steps.specs.Stopped.{StartsStopped};
 ghost use Rattle.stack_steps.specs.Ticking.{RisesWithin};
 
 use crate::room::Room;
-use crate::unwind::{Stop, unwind_frames_alone, unwind_frames_cached, unwind_frames_over};
+use crate::unwind::{
+    Stop, unwind_frames_alone, unwind_frames_by_made, unwind_frames_cached, unwind_frames_over,
+};
 use eh_frame::{Bases, EhFrame, Entries, Error, RowRoom};
 use fde_finders::{FrameInfo, FrameInfoKind};
 use memory_image::{Ledger, MemoryImage, Steps};
 use stack_steps::{
-    DeliverError, FrameCache, GrownSpace, Module, ModuleTables, Space, Stepped, Stepper,
+    DeliverError, FrameCache, GrownSpace, MadeRows, Module, ModuleTables, Space, Stepped, Stepper,
 };
 use unwind_arch::x86_64::{Context, RSP};
 
@@ -232,6 +235,40 @@ where
     }
 }
 
+/// The same by the rows that were made before in modules that aren't prepared.
+fn walk_to_end_by_made<'t, 'a, L: Ledger>(
+    made: &mut MadeRows<'a>,
+    space: &GrownSpace<'_, 't, 'a>,
+    start: &Context,
+    interrupted: bool,
+    limit: u32,
+    room: &mut Room,
+    steps: &mut Steps<L>,
+) -> EndReason
+where
+    't: 'a,
+    requires made { AreMade space.now made.old }
+    requires within { limit ≤ room.old.limit }
+    ensures states { room.new.visited ≡ contexts_to_end space.now limit start.now interrupted }
+    ensures why { ComesTo result space.now limit start.now interrupted }
+    ensures no_cleanup { room.new.trail ≡ [] }
+    ensures places { room.new.limit ≡ room.old.limit }
+    ensures searches { RisesWithin space.now (length room.new.visited) steps.old.number
+        steps.new.number }
+    ensures ticks { RisesWithin space.now limit steps.old.number steps.new.number }
+    ensures made { AreMade space.now made.new }
+{
+    room.clear();
+    let mut state = Stepped {
+        context: *start,
+        signal: interrupted,
+    };
+    match unwind_frames_by_made(space, &mut state, limit, room, made, steps) {
+        Ok(_) => unframed_end(space, &state),
+        Err(error) => stopped_end(state.address(), error),
+    }
+}
+
 /// Goes from a state outwards as a walk does.
 fn unwinding_from<'t, 'a, L: Ledger>(
     space: &GrownSpace<'_, 't, 'a>,
@@ -409,6 +446,68 @@ where
     // No two of its modules share an address, as a space's type says.
     let _ = space.image();
     walk_to_end_by(cache, space, start, interrupted, limit, room, steps)
+}
+
+/// Walks as [`walk_to_end_over`] does, by the rows that were made before, over the same image, in modules
+/// that aren't prepared. Most frames at addresses whose rows are there need no search, and count none.
+pub fn walk_to_end_made<'t, 'a, L: Ledger>(
+    made: &mut MadeRows<'a>,
+    space: &GrownSpace<'_, 't, 'a>,
+    start: &Context,
+    interrupted: bool,
+    limit: u32,
+    room: &mut Room,
+    steps: &mut Steps<L>,
+) -> EndReason
+where
+    't: 'a,
+    requires made { AreMade space.now made.old }
+    requires within { limit ≤ room.old.limit }
+    // The states are those from the start outwards, each the caller of the one before.
+    ensures states { room.new.visited ≡ contexts_to_end space.now limit start.now interrupted }
+    // They are all of a line that the limit has room for, and the first of any longer one.
+    ensures whole { (states : List Context) →
+        line_of space.now limit start.now interrupted ≡ Ok states →
+        room.new.visited ≡ states }
+    ensures front { (longer : ℕ) (states : List Context) → limit ≤ longer →
+        line_of space.now longer start.now interrupted ≡ Ok states →
+        room.new.visited ≡ take limit states }
+    // Each reason is given exactly for its cause.
+    ensures why { (reason : EndReason) → (result ≡ reason) ↔
+        ComesTo reason space.now limit start.now interrupted }
+    // A described chain, through modules of whatever format, that the limit has room for is walked
+    // to its end. The reason is there that the last state returns to 0, or that no module holds the
+    // byte before its return address, or that the module which does has no description of it.
+    ensures chain { (functions : List Function) (s : State) (calls : List Call) →
+        StartsChain space.now start.now limit functions s calls → IsFalse interrupted →
+        ShowChain room.new.visited s calls ×
+        (result ≡ end_reason_of_chain space.now.modules (last_state s calls)) }
+    // So is a function that was stopped in its body, in the prologue where it is of an ELF or a PE
+    // module, or in an epilog where it is of a PE module, and then the described chain that its
+    // caller begins.
+    ensures stopped { (functions : List Function) (s : State) (call : Call) (calls : List Call) →
+        StartsStopped space.now start.now limit functions s call calls → IsTrue interrupted →
+        ShowChain room.new.visited s (call ∷ calls) ×
+        (result ≡ end_reason_of_chain space.now.modules (last_state call.caller calls)) }
+    // A stack of each of whose frames it is known how its caller's state follows is walked to its end,
+    // through signals' frames too, for the reason that its outermost state has.
+    ensures known { (s : State) (callers : List State) →
+        (is : StartsKnownStack space.now start.now limit interrupted s callers) →
+        ShowStack space.now room.new.visited interrupted s callers is.stack ×
+        (result ≡ end_reason_of_stack space.now interrupted s callers is.stack) }
+    ensures no_cleanup { room.new.trail ≡ [] }
+    ensures places { room.new.limit ≡ room.old.limit }
+    // A description is searched once at most at each state.
+    ensures searches { RisesWithin space.now (length room.new.visited) steps.old.number
+        steps.new.number }
+    // As many searches as the limit allows states; none is counted where each module names a frame
+    // table and none is prepared.
+    ensures ticks { RisesWithin space.now limit steps.old.number steps.new.number }
+    ensures made { AreMade space.now made.new }
+{
+    // No two of its modules share an address, as a space's type says.
+    let _ = space.image();
+    walk_to_end_by_made(made, space, start, interrupted, limit, room, steps)
 }
 
 /// Walks the stack whose innermost frame has the registers `start` into a room as far as it goes,

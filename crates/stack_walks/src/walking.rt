@@ -14,10 +14,10 @@ ghost use Rattle.stack_walks.specs.Walking.{IsWalked, StartsChain, StepFails, Sh
 ghost use Rattle.stack_steps.specs.Stopped.{StartsStopped};
 
 use crate::room::Room;
-use crate::unwind::{Stop, unwind_frames, unwind_frames_alone};
+use crate::unwind::{Stop, unwind_frames, unwind_frames_alone, unwind_frames_by_made};
 use eh_frame::RowRoom;
 use memory_image::{Ledger, NoLedger, Steps};
-use stack_steps::{DeliverError, Space, Stepped};
+use stack_steps::{DeliverError, MadeRows, Space, Stepped};
 use std::alloc::Global;
 use std::marker::Model;
 use unwind_arch::x86_64::Context;
@@ -195,9 +195,62 @@ impl Visited {
     }
 }
 
+/// Goes from a state outwards as a walk does: where each module is prepared, without a room for rows, and
+/// else by the rows that were made before.
+fn unwinding_by_made<'a, L: Ledger>(
+    alloc: Global,
+    space: &Space<'a>,
+    state: &mut Stepped,
+    limit: u32,
+    room: &mut Room,
+    steps: &mut Steps<L>,
+) -> Result<Option<Stop>, DeliverError>
+    requires within { limit ≤ room.old.limit }
+    requires empty { room.old.visited ≡ [] }
+    ensures walks { (result ≡ Err DeliverError.NoMemory) ⊎ IsWalked result room.new
+        (line_of space.now limit state.old.context state.old.signal) }
+{
+    if space.is_prepared() {
+        return unwind_frames_alone(&space.over_own_image(), state, limit, room, steps);
+    }
+    let mut made = MadeRows::new(alloc)?;
+    unwind_frames_by_made(
+        &space.over_own_image(),
+        state,
+        limit,
+        room,
+        &mut made,
+        steps,
+    )
+}
+
+/// The states of a stack, or the first fault.
+fn walked(
+    alloc: Global,
+    space: &Space<'_>,
+    start: &Context,
+    interrupted: bool,
+    limit: u32,
+) -> Result<Visited, DeliverError>
+    ensures exact { GivesUnlessNoMemory result (line_of space.now limit start.now interrupted) }
+{
+    let mut room = Room::new(alloc, limit)?;
+    let mut state = Stepped {
+        context: *start,
+        signal: interrupted,
+    };
+    let mut steps = Steps::new(NoLedger);
+    match unwinding_by_made(alloc, space, &mut state, limit, &mut room, &mut steps) {
+        Ok(_) => Ok(Visited { room }),
+        Err(error) => Err(error),
+    }
+}
+
 /// Walks the stack whose innermost frame has the registers `start`.
 ///
-/// It is `walk_into` over a room of `limit` places, which is reserved for it and not filled.
+/// It answers what `walk_into` does, over a room of `limit` places, which is reserved for it and not
+/// filled. Rows that were made in modules that aren't prepared are kept for the frames that follow, as in
+/// a recursion.
 ///
 /// # Errors
 ///
@@ -244,14 +297,7 @@ pub fn walk(
         (result ≡ Err DeliverError.NoMemory) ⊎
         IsOkAnd result (λ visited. ShowStack space.now visited interrupted s callers is.stack) }
 {
-    let mut room = Room::new(alloc, limit)?;
-    walk_into(
-        space,
-        start,
-        interrupted,
-        limit,
-        &mut room,
-        &mut Steps::new(NoLedger),
-    )?;
-    Ok(Visited { room })
+    // No two of its modules share an address, as a space's type says.
+    let _ = space.image();
+    walked(alloc, space, start, interrupted, limit)
 }
