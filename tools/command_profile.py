@@ -42,6 +42,7 @@ from snapshot_file import Object, text_of
 LINE = re.compile(r"(.*) ([1-9]\d*)$")
 FRAME = re.compile(r"(?:(.*)\+)?0x([0-9a-f]+)$")
 PLACE = re.compile(r"\t0x([1-9a-f][0-9a-f]*) (.*) \((.*)\)")
+OFFSET = re.compile(r"\+0x[0-9a-f]+$")
 STACK_BYTES = 8192
 
 
@@ -157,6 +158,13 @@ def script_frames(tables: Object, lines: list[str]) -> dict[int, ReportedFrame]:
     return found
 
 
+def with_offset(name: str, place: str) -> str:
+    """A name as it stands in a line. One that ends as a symbol with an offset does, as a frame without a name has its file and its
+    function's place, has its own offset after it: readers of such texts take that off."""
+    offset = OFFSET.search(place)
+    return name + (offset[0] if offset is not None else "+0x0") if OFFSET.search(name) else name
+
+
 def named_script(part: Part, tables: Object, program: str) -> list[str]:
     """The samples of a part one after another, in the text form of `perf script`, with the names of functions. One that was inlined
     has a line of its own, before that of the function which it stands in."""
@@ -166,8 +174,11 @@ def named_script(part: Part, tables: Object, program: str) -> list[str]:
     found = []
     for number, line in enumerate(lines):
         place = PLACE.fullmatch(line)
-        texts = [name.text for name in names.of(frames[number])[::-1]] if place is not None else []
-        found += [f"\t{frames[number].address:x} {text} ({place[3]})" for text in texts] if place is not None else [line]
+        if place is None:
+            found.append(line)
+        else:
+            texts = [with_offset(name.text, place[2]) for name in names.of(frames[number])[::-1]]
+            found += [f"\t{frames[number].address:x} {text} ({place[3]})" for text in texts]
     return found
 
 

@@ -10,7 +10,7 @@ from pathlib import Path
 from unittest import mock
 
 import command_profile
-from command_profile import Line, counts_of, line_of, options_of, script_frames
+from command_profile import Line, counts_of, line_of, options_of, script_frames, with_offset
 from elf_image import Refused
 from flame_picture import Name
 from flamegraph import Stack
@@ -37,7 +37,7 @@ if test "$1" = --script; then form=$1; shift; fi
 test -s "$1" || exit 3
 test "$(head -c 8)" = PERFILE2 || exit 8
 if test $form = --script; then
-    printf 'sh 1/1 2.000000003: 1 samples:\\n\\t0x11008 library+0x1008 (/x/library)\\n\\t0x7 [unknown] ([unknown])\\n\\t0x0 [cut] ([unknown])\\n\\n'
+    printf 'sh 1/1 2.000000003: 1 samples:\\n\\t0x11008 library+0x1004+0x4 (/x/library)\\n\\t0x7 [unknown] ([unknown])\\n\\t0x0 [cut] ([unknown])\\n\\n'
     exit
 fi
 printf 'sh;[cut];library+0x1008;library+0x1004 2\\nsh;0x7 1\\n'
@@ -130,10 +130,17 @@ class Runs(unittest.TestCase):
         self.assertRegex((self.folder / "samples").read_text(), r"\Ash 1/1 2\.000000003: 1 samples:\n\t11008 \S+ \(/x/library\)\n"
                          r"\t7 \[unknown\] \(\[unknown\]\)\n\t0x0 \[cut\] \(\[unknown\]\)\n\n\Z")
 
+    def test_offset_after_a_name(self) -> None:
+        """Collapsers take an offset off a symbol's end, and are to keep the place of a function without a name."""
+        for name, place, expected in (("main", "b+0x10+0x3", "main"), ("b+0x10", "b+0x10+0x3", "b+0x10+0x3"),
+                                      ("b+0x10", "[unknown]", "b+0x10+0x0"), ("[unknown]", "[unknown]", "[unknown]")):
+            with self.subTest(name, place=place):
+                self.assertEqual(with_offset(name, place), expected)
+
     def test_frames_of_a_script(self) -> None:
         """The first frame of a sample was interrupted, and what stands in a frame's place is none."""
-        lines = ["sh 1/2 0.000000001: 1 samples:", "\t0x10 b+0x10 (/b)", "\t0x1f b+0x1f (/b)", "\t0x0 [cut] ([unknown])", "",
-                 "sh 1/2 0.000000002: 1 samples:", "\t0x0 [popped] ([unknown])", "\t0x1f b+0x1f (/b)", ""]
+        lines = ["sh 1/2 0.000000001: 1 samples:", "\t0x10 b+0x10+0x0 (/b)", "\t0x1f b+0x10+0xf (/b)", "\t0x0 [cut] ([unknown])", "",
+                 "sh 1/2 0.000000002: 1 samples:", "\t0x0 [popped] ([unknown])", "\t0x1f b+0x10+0xf (/b)", ""]
         frames = script_frames({"regions": [], "modules": []}, lines)
         self.assertEqual({number: (frame.counter, frame.address) for number, frame in frames.items()},
                          {1: (0x10, 0x10), 2: (0x20, 0x1f), 7: (0x1f, 0x1f)})

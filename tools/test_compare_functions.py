@@ -17,8 +17,8 @@ READELF = """Contents of the .eh_frame section:
 
 SCRIPT = """worker 7/9 1.000000001: 1 samples:
 \t0x0 [popped] ([unknown])
-\t0x401075 a.out+0x1075 (/usr/bin/a.out)
-\t0x401050 a.out+0x1050 (/usr/bin/a.out)
+\t0x401075 a.out+0x1070+0x5 (/usr/bin/a.out)
+\t0x401050 a.out+0x1050+0x0 (/usr/bin/a.out)
 \t0x0 [no table] ([unknown])
 
 """

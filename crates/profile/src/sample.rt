@@ -55,7 +55,7 @@ pub fn a_popped_stack_is_asked_for()
     ensures stacks { stacks_of popped.walked popped.records ≡
         codes "ab;a.out+0x1000;a.out+0x1000;[popped]" ∷ [] }
     ensures script { script_text popped.walked popped.records ≡
-        codes "ab 7/8 0.000000009: 1 samples:\n\t0x0 [popped] ([unknown])\n\t0x40100f a.out+0x100f (a.out)\n\t0x401005 a.out+0x1005 (a.out)\n\n" }
+        codes "ab 7/8 0.000000009: 1 samples:\n\t0x0 [popped] ([unknown])\n\t0x40100f a.out+0x1000+0xf (a.out)\n\t0x401005 a.out+0x1000+0x5 (a.out)\n\n" }
     ensures has { HasSample popped.records popped.sample_value popped.earlier }
     ensures begins { BeginsPoppedStack popped.walked.space popped.walked.limit
         popped.sample_value popped_stack.at_return popped_stack.callers }

@@ -6,6 +6,7 @@ use Rattle.memory_image.specs.Results.{result_map}
 use Rattle.unwind_arch.specs.declared.x86_64.Context.{Context}
 use Rattle.perf_data.specs.declared.errors.PerfError.{PerfError}
 use Rattle.perf_data.specs.Records.{RecordValue, Sampled, Mapped, Named, Forked, Exited, OtherKind}
+use Rattle.stack_steps.specs.Functions.{described_function}
 use Rattle.stack_steps.specs.Modules.{Added, SpaceValue}
 use Rattle.stack_snapshot.specs.Origins.{OriginValue}
 use Rattle.sampled_profile.specs.Ends.{StackWalk, end_word, popped_word, returns_of}
@@ -13,7 +14,7 @@ use Rattle.sampled_profile.specs.declared.script.Script.{Script}
 use Rattle.sampled_profile.specs.Kept.{IsScript}
 use Rattle.sampled_profile.specs.Names.{name_of}
 use Rattle.sampled_profile.specs.Profiles.{Tables, tables, read_after, read_all}
-use Rattle.sampled_profile.specs.Scripts.{frame_lines, head_line, mark_line, sample_lines, script_text, script_of}
+use Rattle.sampled_profile.specs.Scripts.{frame_lines, head_line, mark_line, place_line, sample_lines, script_text, script_of}
 use Rattle.sampled_profile.specs.declared.profile.ProfileError.{ProfileError}
 use Rattle.sampled_profile.specs.declared.profile.ProfileError.TheVariants.{NoMemory, Unread}
 use Rattle.sampled_profile.specs.Reading.{ReadsNext}
@@ -21,7 +22,7 @@ use Rattle.sampled_profile.specs.Told.{Gives}
 use Rattle.sampled_profile.proofs.ProfileLemmas.{read_failed}
 use Rattle.sampled_profile.proofs.WalkLemmas.{addresses_same, other, walk_same}
 use Rattle.sampled_profile.proofs.TextLemmas.{returns_from}
-use Rattle.sampled_profile.specs.Frames.{addresses_of}
+use Rattle.sampled_profile.specs.Frames.{addresses_of, place_in}
 use Rattle.sampled_profile.specs.Walks.{walk_of}
 use Rattle.perf_data.specs.Samples.{SampleValue}
 
@@ -29,11 +30,11 @@ use Rattle.perf_data.specs.Samples.{SampleValue}
 
 -- one more on the way outwards
 pub one_more_line : (space : SpaceValue) (origins : List OriginValue) (states : List Context) (i : ℕ) (c : Context) (interrupted signal : Bool) (old new all : List ℕ) → slice_get states i ≡ Some c
-    → old ++ frame_lines origins (addresses_of space interrupted (returns_of (drop i states))) ≡ all
-    → ((outer : List ℕ) → new ++ frame_lines origins (addresses_of space signal outer) ≡ old ++ frame_lines origins (addresses_of space interrupted (c.ra ∷ outer)))
-    → new ++ frame_lines origins (addresses_of space signal (returns_of (drop (i + 1) states))) ≡ all
+    → old ++ frame_lines space origins (addresses_of space interrupted (returns_of (drop i states))) ≡ all
+    → ((outer : List ℕ) → new ++ frame_lines space origins (addresses_of space signal outer) ≡ old ++ frame_lines space origins (addresses_of space interrupted (c.ra ∷ outer)))
+    → new ++ frame_lines space origins (addresses_of space signal (returns_of (drop (i + 1) states))) ≡ all
 one_more_line space origins states i c interrupted signal old new all at before put =
-    put (returns_of (drop (i + 1) states)) ∙ (ap (λ rs. old ++ frame_lines origins (addresses_of space interrupted rs)) (sym (returns_from states i c at)) ∙ before)
+    put (returns_of (drop (i + 1) states)) ∙ (ap (λ rs. old ++ frame_lines space origins (addresses_of space interrupted rs)) (sym (returns_from states i c at)) ∙ before)
 
 -- ---- words in a frame's place
 
@@ -78,10 +79,18 @@ failed_script (Err f) t all left rest earlier e is reads so_far = subst (λ (g :
 
 -- ---- prepared modules
 
+-- a function begins where it did
+placed_same : (s : SpaceValue) (added : List Added) (origins : List OriginValue) (addresses : List ℕ) → frame_lines (other s added) origins addresses ≡ frame_lines s origins addresses
+unfolding described_function
+placed_same s added origins [] = refl
+placed_same s added origins (a ∷ addresses) = ap (λ (lines : List ℕ). place_line origins (place_in s a) a ++ lines) (placed_same s added origins addresses)
+
 lines_same : (s : SpaceValue) (added : List Added) (origins : List OriginValue) (name : Option (List ℕ)) (k : SampleValue) (w : StackWalk) → sample_lines (other s added) origins name k w ≡ sample_lines s origins name k w
 unfolding sample_lines
 lines_same s added origins name k w =
-    ap (λ addresses. head_line name k ++ (mark_line (popped_word w.popped) ++ (frame_lines origins addresses ++ mark_line (end_word w.end))) ++ 10 ∷ []) (addresses_same s added true w.returns)
+    let at : frame_lines (other s added) origins (addresses_of (other s added) true w.returns) ≡ frame_lines s origins (addresses_of s true w.returns) =
+    placed_same s added origins (addresses_of (other s added) true w.returns) ∙ ap (frame_lines s origins) (addresses_same s added true w.returns) in
+    ap (λ (lines : List ℕ). head_line name k ++ (mark_line (popped_word w.popped) ++ (lines ++ mark_line (end_word w.end))) ++ 10 ∷ []) at
 
 module _ (s : SpaceValue) (added : List Added) (origins : List OriginValue) (limit : ℕ) where
   abbrev prepared : Tables

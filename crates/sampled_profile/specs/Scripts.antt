@@ -2,7 +2,7 @@
 -- the name of the thread, its process and its own number, and when the sample was taken; a line that says that popped
 -- registers were kept; a line for each frame, the innermost first; one that says why the stack goes no further; and an
 -- empty line.
-use Rattle.std.specs.Prelude.{ℕ, zero, suc, ◌/◌, ◌%◌, ◌^◌, false, true, List, [], ◌∷◌, ◌++◌, Option, Some, None, Result, codes}
+use Rattle.std.specs.Prelude.{ℕ, zero, suc, ◌-◌, ◌/◌, ◌%◌, ◌^◌, false, true, List, [], ◌∷◌, ◌++◌, Option, Some, None, Result, codes}
 use Rattle.std.specs.Fmt.{decimal, digit_glyph}
 use Rattle.memory_image.specs.Results.{result_map}
 use Rattle.perf_data.specs.declared.errors.PerfError.{PerfError}
@@ -13,7 +13,7 @@ use Rattle.stack_snapshot.specs.Origins.{OriginValue, origin_at}
 use Rattle.stack_report.specs.Digits.{hexadecimal}
 use Rattle.stack_report.specs.Report.{line}
 use Rattle.stack_steps.specs.Modules.{SpaceValue}
-use Rattle.sampled_profile.specs.Frames.{addresses_of}
+use Rattle.sampled_profile.specs.Frames.{addresses_of, place_in}
 use Rattle.sampled_profile.specs.Names.{name_of}
 use Rattle.sampled_profile.specs.Profiles.{Tables, read_all}
 use Rattle.sampled_profile.specs.Texts.{place_text, root_text, written_name}
@@ -45,18 +45,19 @@ head_line name s = line (root_text name ++ thread_text s.thread ++ time_text s.t
 
 -- ---- the frames
 
--- an address, its place and the file
-abbrev pub placed_text : Option OriginValue → ℕ → List ℕ
-placed_text None a = codes " [unknown] ([unknown])"
-placed_text (Some o) a = codes " " ++ place_text (Some o) a ++ (codes " (" ++ written_name o.path ++ codes ")")
+-- where the frame is by its function, which stands for a symbol, how far past that the address lies, and the file
+abbrev pub placed_text : Option OriginValue → ℕ → ℕ → List ℕ
+placed_text None place a = codes " [unknown] ([unknown])"
+placed_text (Some o) place a =
+    codes " " ++ place_text (Some o) place ++ (codes "+" ++ hexadecimal (a - place)) ++ (codes " (" ++ written_name o.path ++ codes ")")
 
-abbrev pub place_line : List OriginValue → ℕ → List ℕ
-place_line origins a = line (codes "\t" ++ hexadecimal a ++ placed_text (origin_at origins a) a)
+abbrev pub place_line : List OriginValue → ℕ → ℕ → List ℕ
+place_line origins place a = line (codes "\t" ++ hexadecimal a ++ placed_text (origin_at origins a) place a)
 
 -- frames by the addresses of their instructions, as perf has them, from the innermost outwards
-abbrev pub frame_lines : List OriginValue → List ℕ → List ℕ
-frame_lines origins [] = []
-frame_lines origins (a ∷ addresses) = place_line origins a ++ frame_lines origins addresses
+abbrev pub frame_lines : SpaceValue → List OriginValue → List ℕ → List ℕ
+frame_lines space origins [] = []
+frame_lines space origins (a ∷ addresses) = place_line origins (place_in space a) a ++ frame_lines space origins addresses
 
 -- ---- what is written beside the frames
 
@@ -74,7 +75,7 @@ mark_line (Some word) = word_line word
 abbrev pub walk_lines : SpaceValue → List OriginValue → StackWalk → List ℕ
 walk_lines space origins w =
     mark_line (popped_word w.popped)
-    ++ (frame_lines origins (addresses_of space true w.returns) ++ mark_line (end_word w.end))
+    ++ (frame_lines space origins (addresses_of space true w.returns) ++ mark_line (end_word w.end))
 
 -- a sample of a thread of this name, by its walk over a space
 unfoldable pub sample_lines : SpaceValue → List OriginValue → Option (List ℕ) → SampleValue → StackWalk → List ℕ

@@ -1,8 +1,8 @@
 // The lines of a sample.
-ghost use Rattle.std.specs.Prelude.{◌≡◌, ◌≤◌, ◌==◌, ◌++◌, ◌∷◌, IfOk, List, OnOk, [], true, ℕ};
+ghost use Rattle.std.specs.Prelude.{◌≡◌, ◌≤◌, ◌==◌, ◌++◌, ◌∷◌, IfOk, List, OnOk, true, ℕ};
 ghost use Rattle.std.specs.Option.{option_map};
 ghost use Rattle.perf_data.specs.Views.{sample_value};
-ghost use Rattle.sampled_profile.specs.Ends.{end_word, popped_word, returns_of};
+ghost use Rattle.sampled_profile.specs.Ends.{popped_word, returns_of};
 ghost use Rattle.sampled_profile.specs.Frames.{addresses_of};
 ghost use Rattle.sampled_profile.specs.Scripts.{decimals, frame_lines, mark_line};
 ghost use Rattle.sampled_profile.specs.Scripts.{head_line, place_line, placed_text, sample_lines};
@@ -10,7 +10,7 @@ ghost use Rattle.sampled_profile.specs.Scripts.{seconds_text, thread_text, time_
 ghost use Rattle.sampled_profile.specs.Walks.{walk_of};
 
 use crate::stack_end::popped_word;
-use crate::stack_table::is_signal;
+use crate::stack_table::{frame_place, is_signal};
 use crate::texts::{address_inside, put_name, put_place, put_root};
 use crate::walks::walk_sample;
 use perf_data::{Sample, Thread};
@@ -77,27 +77,38 @@ fn put_head(report: &mut Report, name: Option<&[u8]>, sample: &Sample<'_>) -> Re
     report.end_line()
 }
 
-/// Puts the place of an address and the file that it lies in last.
-fn put_placed(report: &mut Report, origin: Option<&Origin>, address: u64) -> Result<(), AllocError>
+/// Puts a frame's place last, how far past it the address lies, and the file.
+fn put_placed(
+    report: &mut Report,
+    origin: Option<&Origin>,
+    place: u64,
+    address: u64,
+) -> Result<(), AllocError>
     ensures { OnOk result (report.new ≡ report.old ++
-        placed_text (option_map (λ o. o.now) origin.entry) address) }
+        placed_text (option_map (λ o. o.now) origin.entry) place address) }
 {
     let Some(file) = origin else {
         return report.put(" [unknown] ([unknown])");
     };
     report.put(" ")?;
-    put_place(report, origin, address)?;
+    put_place(report, origin, place)?;
+    report.put_field("+", address.saturating_sub(place))?;
     report.put(" (")?;
     put_name(report, file.path())?;
     report.put(")")
 }
 
-/// Puts the line of an address last.
-fn put_place_line(report: &mut Report, origins: &Origins, address: u64) -> Result<(), AllocError>
-    ensures { OnOk result (report.new ≡ report.old ++ place_line origins.now address) }
+/// Puts the line of an address last, in a frame that is at this place.
+fn put_place_line(
+    report: &mut Report,
+    origins: &Origins,
+    place: u64,
+    address: u64,
+) -> Result<(), AllocError>
+    ensures { OnOk result (report.new ≡ report.old ++ place_line origins.now place address) }
 {
     report.put_field("\t", address)?;
-    put_placed(report, origins.at(address), address)?;
+    put_placed(report, origins.at(address), place, address)?;
     report.end_line()
 }
 
@@ -111,16 +122,17 @@ fn put_frame_line(
     address: u64,
 ) -> Result<bool, AllocError>
     ensures lines { IfOk result (λ signal. (outer : List ℕ) → report.new ++
-        frame_lines origins.now (addresses_of cache.old signal outer) ≡ report.old ++
-        frame_lines origins.now (addresses_of cache.old interrupted (address ∷ outer))) }
+        frame_lines cache.old origins.now (addresses_of cache.old signal outer) ≡ report.old ++
+        frame_lines cache.old origins.now (addresses_of cache.old interrupted (address ∷ outer))) }
     ensures same { cache.new ≡ cache.old }
 {
     if address == 0 {
         return Ok(false);
     }
     let asked = address_inside(address, interrupted);
-    put_place_line(report, origins, asked)?;
-    Ok(is_signal(cache.described_function(asked)))
+    let function = cache.described_function(asked);
+    put_place_line(report, origins, frame_place(asked, function), asked)?;
+    Ok(is_signal(function))
 }
 
 /// Puts the lines of the states in a room last, the innermost first. At the first of them the thread was
@@ -132,7 +144,7 @@ fn put_frame_lines(
     room: &Room,
 ) -> Result<(), AllocError>
     ensures lines { OnOk result (report.new ≡ report.old ++
-        frame_lines origins.now (addresses_of cache.old true (returns_of room.now.visited))) }
+        frame_lines cache.old origins.now (addresses_of cache.old true (returns_of room.now.visited))) }
     ensures same { cache.new ≡ cache.old }
 {
     let mut interrupted = true;

@@ -15,7 +15,7 @@ use std::alloc::{AllocError, Global};
 use std::collections::HashMap;
 
 /// Where a frame is by its function, by the address asked of it.
-fn frame_place(asked: u64, function: Option<DescribedFunction>) -> u64
+pub(crate) fn frame_place(asked: u64, function: Option<DescribedFunction>) -> u64
     ensures { result ≡ frame_place asked function }
 {
     match function {
