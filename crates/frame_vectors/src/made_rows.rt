@@ -62,18 +62,19 @@ fn space_of<'a>(alloc: Global, stack: &'a [u8]) -> Result<Space<'a>, Fail> {
     Ok(space)
 }
 
-/// Walks a case, and answers how many searches were counted.
-fn walk_case(alloc: Global, case: &Case, room: &mut Room) -> Result<(EndReason, u64), Fail> {
+/// Walks a case, and answers why it ends, how many searches were counted, and the states.
+fn walk_case(alloc: Global, case: &Case) -> Result<(EndReason, u64, Room), Fail> {
     let stack = stack_of(alloc, &case.calls)?;
     let space = space_of(alloc, &stack)?;
     let mut start = Context::default();
     start.ra = case.calls[0];
     start.registers[RSP] = STACK;
+    let mut room = Room::new(alloc, 8)?;
     let mut made = MadeRows::new(alloc)?;
     let mut steps = Steps::new(Counted { count: 0 });
     let own = space.over_own_image();
-    let end = walk_to_end_made(&mut made, &own, &start, false, 8, room, &mut steps);
-    Ok((end, steps.ledger().count))
+    let end = walk_to_end_made(&mut made, &own, &start, false, 8, &mut room, &mut steps);
+    Ok((end, steps.ledger().count, room))
 }
 
 /// The numbers of the calls inside of each state, and the stack pointers, are those of the calls.
@@ -81,7 +82,8 @@ fn are_callers(room: &Room) -> bool {
     for i in 0..room.visited_len() {
         let state = room.visited(i).unwrap();
         let inner = i as u64;
-        if state.registers[RBX] != inner || state.registers[RSP] != STACK + 16 * inner {
+        let stack = STACK.wrapping_add(inner.wrapping_mul(16));
+        if state.registers[RBX] != inner || state.registers[RSP] != stack {
             return false;
         }
     }
@@ -90,10 +92,9 @@ fn are_callers(room: &Room) -> bool {
 
 #[test]
 fn a_kept_row_needs_no_search(rt: HostRuntime) -> Result<(), Fail> {
-    let mut room = Room::new(rt.alloc(), 8)?;
     for case in &CASES {
-        let found = walk_case(rt.alloc(), case, &mut room)?;
-        expect_equal(&rt, found, (EndReason::Outermost, case.searches));
+        let (end, searches, room) = walk_case(rt.alloc(), case)?;
+        expect_equal(&rt, (end, searches), (EndReason::Outermost, case.searches));
         expect_equal(&rt, room.visited_len(), 5);
         assert!(rt; are_callers(&room));
     }
