@@ -1,6 +1,6 @@
 // Walks by rows that are kept on the way: the states, and how many searches are counted.
 use crate::asserting::expect_equal;
-use crate::prepared::{HEADER, TABLE};
+use crate::prepared::HEADER;
 use memory_image::{Counted, MemoryImage, Steps};
 use stack_deliver::{
     Context, EndReason, FrameInfo, FrameInfoKind, MadeRows, Room, Space, walk_to_end_made,
@@ -11,13 +11,19 @@ use unwind_arch::x86_64::{RBX, RSP};
 
 const STACK: u64 = 0x7000;
 
+/// The frame table of `prepared`, whose function pushes RBX, where it has 256 bytes.
+const TABLE: [u8; 52] =
+    *b"\x14\0\0\0\0\0\0\0\x01zR\0\x01\x78\x10\x01\x1b\x0c\x07\x08\x90\x01\0\0\x14\0\0\0\x1c\0\0\0\
+    \xe0\x0f\xf0\xff\0\x01\0\0\0\x41\x0e\x10\x83\x02\0\0\0\0\0\0";
+
 /// Where the calls of a stack are, the innermost first, and how many searches they need.
 struct Case {
     calls: [u64; 4],
     searches: u64,
 }
 
-const CASES: [Case; 3] = [
+// The rows of the three calls have two places.
+const CASES: [Case; 4] = [
     // a recursion
     Case {
         calls: [0x40_1006; 4],
@@ -25,13 +31,18 @@ const CASES: [Case; 3] = [
     },
     // two calls by turns
     Case {
-        calls: [0x40_1006, 0x40_1007, 0x40_1006, 0x40_1007],
+        calls: [0x40_1006, 0x40_103d, 0x40_1006, 0x40_103d],
         searches: 2,
     },
-    // two for whose rows there is one place
+    // a third, which takes the place of the first
     Case {
-        calls: [0x40_1003, 0x40_1008, 0x40_1003, 0x40_1008],
+        calls: [0x40_1006, 0x40_103d, 0x40_105f, 0x40_1006],
         searches: 4,
+    },
+    // and leaves that of the second
+    Case {
+        calls: [0x40_1006, 0x40_103d, 0x40_105f, 0x40_103d],
+        searches: 3,
     },
 ];
 
@@ -58,7 +69,7 @@ fn space_of<'a>(alloc: Global, stack: &'a [u8]) -> Result<Space<'a>, Fail> {
         text_base: None,
         kind: FrameInfoKind::EhFrameHdr(0x50_4000),
     };
-    space.add_elf(0x40_1000, 0x40_1010, frame)?;
+    space.add_elf(0x40_1000, 0x40_1100, frame)?;
     Ok(space)
 }
 

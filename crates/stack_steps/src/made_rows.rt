@@ -8,18 +8,19 @@ use eh_frame::Row;
 use std::alloc::{AllocError, Global};
 use std::marker::Model;
 
-// For how many rows there are places.
-const PLACES: usize = 32;
+// For how many rows there are places: two for each of the sets in which the addresses are.
+const PLACES: usize = 64;
 
-// 2^64 by the golden ratio: each bit of a word has its part in the high bits of its product with this.
+// 2^64 by the golden ratio: the high bits of a word's product with this differ where addresses lie close
+// together.
 const SPREAD: u64 = 0x9e37_79b9_7f4a_7c15;
 
-// The place for the row of an address.
+// The set of an address.
 #[inline(always)]
-fn place_of(address: u64) -> usize
+fn set_of(address: u64) -> usize
     ensures { result < 32 }
 {
-    ((address.wrapping_mul(SPREAD) >> 32) % 32) as usize
+    ((address.wrapping_mul(SPREAD) >> 59) % 32) as usize
 }
 
 /// The row that was made at an address.
@@ -34,11 +35,13 @@ pub(crate) struct MadeRow<'a> {
 /// Rows that were made at addresses of modules that aren't prepared, in walks over one image: a frame
 /// at an address whose row is there needs no search. As in a recursion, which has few addresses.
 ///
-/// It has a fixed number of places, made once: that of an address is known by its number alone, and
-/// holds the row that was made there last. Contracts see the places.
+/// It has a fixed number of places, made once, two for each set of addresses. They hold the two rows that
+/// were made last of the set. Contracts see the places.
 #[derive(Drop)]
 pub struct MadeRows<'a> {
     places: Vec<Option<MadeRow<'a>>>,
+    // for each set a bit: which of its places is the next that takes a row
+    turns: u32,
 }
 
 impl<'a> Model for MadeRows<'a> {
@@ -49,7 +52,7 @@ impl<'a> Model for MadeRows<'a> {
 
     ghost view = { λ r. r.places.items };
 
-    ghost invariant = { λ r. length r.places.items ≡ 32 };
+    ghost invariant = { λ r. length r.places.items ≡ 64 };
 }
 
 // All places free.
@@ -60,7 +63,7 @@ fn free_places<'a>(alloc: Global) -> Result<MadeRows<'a>, AllocError>
     for _ in 0..PLACES {
         places.push(None)?;
     }
-    Ok(MadeRows { places })
+    Ok(MadeRows { places, turns: 0 })
 }
 
 impl<'a> MadeRows<'a> {
@@ -75,23 +78,38 @@ impl<'a> MadeRows<'a> {
         free_places(alloc)
     }
 
-    // The row that was made at an address.
+    // The row in a place, where it was made at an address.
     #[inline(always)]
-    pub(crate) fn find(&self, address: u64) -> Option<&MadeRow<'a>>
+    fn row_in(&self, place: usize, address: u64) -> Option<&MadeRow<'a>>
+        requires { place < 64 }
         ensures { IfSome result (λ row. FindsMade self.now address row.now) }
     {
-        match &self.places[place_of(address)] {
+        match &self.places[place] {
             Some(row) if row.address == address => Some(row),
             _ => None,
         }
     }
 
-    // Keeps a row in the place for its address.
+    // The row that was made at an address.
+    #[inline(always)]
+    pub(crate) fn find(&self, address: u64) -> Option<&MadeRow<'a>>
+        ensures { IfSome result (λ row. FindsMade self.now address row.now) }
+    {
+        let place = set_of(address) * 2;
+        match self.row_in(place, address) {
+            Some(row) => Some(row),
+            None => self.row_in(place + 1, address),
+        }
+    }
+
+    // Keeps a row in the place whose turn it is in the set of its address.
     #[inline(always)]
     pub(crate) fn keep(&mut self, row: MadeRow<'a>)
         ensures { KeepsMade self.old row.entry self.new }
     {
-        let place = place_of(row.address);
+        let set = set_of(row.address);
+        let place = set * 2 + (self.turns >> set) as usize % 2;
+        self.turns ^= 1 << set;
         self.places[place] = Some(row);
     }
 }
