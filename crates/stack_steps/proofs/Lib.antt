@@ -32,4 +32,5 @@ pub mod StopSamples
 pub mod Taking
 pub mod StoppedUndone
 pub mod PreparedSamples
+pub mod PreparingAt
 pub mod FactSteps

@@ -23,10 +23,10 @@ use Rattle.stack_steps.proofs.Holding.{all_pushed, stand_pushed}
 abbrev pub index_made : Option PreparedTable → Option Index
 index_made o = option_map index_in o
 
-abbrev rows_kept : Added → ℕ
+abbrev pub rows_kept : Added → ℕ
 rows_kept m = rows_of (index_of m)
 
-abbrev rules_kept : Added → ℕ
+abbrev pub rules_kept : Added → ℕ
 rules_kept m = rules_of (index_of m)
 
 abbrev one_if : Option PreparedTable → ℕ
@@ -288,7 +288,7 @@ all_replaced (suc n) (x ∷ xs) (y ∷ ys) same is = ap (λ l. x ∷ l) (all_rep
 
 -- ---- one table after another, in place
 
-default_free : (hs : List AddedModule) (n : ℕ) (d e : AddedModule) → n < length hs → get_or hs n d ≡ get_or hs n e
+pub default_free : (hs : List AddedModule) (n : ℕ) (d e : AddedModule) → n < length hs → get_or hs n d ≡ get_or hs n e
 default_free [] n d e lt = absurd (omega arith)
 default_free (h ∷ hs) zero d e lt = refl
 default_free (h ∷ hs) (suc n) d e lt = default_free hs n d e (omega arith)

@@ -6,9 +6,9 @@ use Rattle.eh_frame.proofs.Exactly.{can_be}
 use Rattle.eh_frame.proofs.SampleIndex.{is_prepared}
 use Rattle.fde_finders.specs.Finding.{table_bases}
 use Rattle.fde_finders.specs.FrameTables.{FrameTable, table_by}
-use Rattle.stack_steps.specs.Modules.{SpaceValue}
-use Rattle.stack_steps.specs.Preparing.{CannotPrepare, HasNoIndex, IsIndexOf, Make, Prepares, prepared_len, rows_left, rules_left, with_indexes}
-use Rattle.stack_steps.specs.PreparedSample.{image, tables_there, unprepared_space, prepared_space}
+use Rattle.stack_steps.specs.Modules.{SpaceValue, without_index}
+use Rattle.stack_steps.specs.Preparing.{CannotPrepare, HasNoIndex, IsIndexOf, Make, Prepares, PreparesAt, prepared_len, rows_left, rules_left, with_indexes}
+use Rattle.stack_steps.specs.PreparedSample.{image, module_there, tables_there, unprepared_space, prepared_space}
 
 -- the table that the module names
 abbrev named : FrameTable
@@ -34,6 +34,15 @@ sample_prepares = record {
   rules_after = 4194301;
   make = (record { unprepared = refl; is_index = is_index; rows_fit = lit≤ tt; rules_fit = lit≤ tt; some = lit< tt; fits = fits }, (refl, refl));
   counted = refl;
+  is = refl;
+}
+
+pub sample_prepares_at : PreparesAt unprepared_space 0x401006 prepared_space
+sample_prepares_at = record {
+  place = 0;
+  at = record { added = without_index module_there; stands = refl; holds = refl; indexed = refl };
+  index = sample.index;
+  becomes = record { unprepared = refl; is_index = is_index; rows_fit = lit≤ tt; rules_fit = lit≤ tt; some = lit< tt; fits = fits };
   is = refl;
 }
 

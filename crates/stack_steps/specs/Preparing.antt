@@ -1,6 +1,6 @@
 -- Which modules of a space are prepared, by what index, and which become so.
 -- LSB, sections on .eh_frame and .eh_frame_hdr.
-use Rattle.std.specs.Prelude.{◌≡◌, ◌⊎◌, ℕ, ◌-◌, ◌<◌, ◌≤◌, List, [], ◌∷◌, length, map, Option, Some, None, IfSome, IsSome, is_some, if◌then◌else◌}
+use Rattle.std.specs.Prelude.{◌≡◌, ◌⊎◌, ℕ, ◌-◌, ◌<◌, ◌≤◌, List, [], ◌∷◌, length, map, set, slice_get, Option, Some, None, IfSome, IsSome, is_some, if◌then◌else◌}
 use Rattle.std.specs.List.{Contains, count_by, sum_by}
 use Rattle.memory_image.specs.Image.{Span}
 use Rattle.unwind_definitions.specs.Entries.{Fde}
@@ -13,7 +13,7 @@ use Rattle.fde_finders.specs.declared.custom.FrameInfoKind.TheVariants.{EhFrame,
 use Rattle.fde_finders.specs.FrameTables.{FrameTable, table_by}
 use Rattle.stack_steps.specs.declared.space.ModuleTables.{ModuleTables}
 use Rattle.stack_steps.specs.declared.space.ModuleTables.TheVariants.{Elf}
-use Rattle.stack_steps.specs.Modules.{Added, SpaceValue, contains}
+use Rattle.stack_steps.specs.Modules.{Added, SpaceValue, contains, module_at}
 
 -- ---- the index of a module
 
@@ -154,3 +154,31 @@ pub record Prepares (old : SpaceValue) (count : ℕ) (new : SpaceValue) : Type 0
   pub make : Make old.image (rows_left old.added) (rules_left old.added) old.added made rows_after rules_after
   pub counted : count ≡ count_by is_some made
   pub is : new ≡ record old { added = with_indexes old.added made }
+
+-- The module at a place in the order of adding is the one that contains an address.
+pub record HoldsAt (space : SpaceValue) (a : ℕ) (place : ℕ) : Type 0 where
+  pub added : Added
+  pub stands : slice_get space.added place ≡ Some added
+  pub holds : module_at space.modules a ≡ Some added.holder
+  pub indexed : index_at space.added a ≡ added.index
+
+-- The module that contains an address becomes prepared, within what is left, and nothing else changes.
+pub record PreparesAt (old : SpaceValue) (a : ℕ) (new : SpaceValue) : Type 0 where
+  pub place : ℕ
+  pub at : HoldsAt old a place
+  pub index : Index
+  pub becomes : Becomes old.image (rows_left old.added) (rules_left old.added) at.added index
+  pub is : new ≡ record old { added = set old.added place (with_index at.added (Some index)) }
+
+-- None does: no module contains the address, or the one that does is prepared or can't be.
+pub record StaysAt (space : SpaceValue) (a : ℕ) : Type 0 where
+  pub place : ℕ
+  pub at : HoldsAt space a place
+  pub stays : Stays space.image (rows_left space.added) (rules_left space.added) at.added
+
+abbrev pub PreparesNoneAt : SpaceValue → ℕ → Type 0
+PreparesNoneAt space a = (module_at space.modules a ≡ None) ⊎ StaysAt space a
+
+-- Of a space nothing changes but the indexes of its modules.
+abbrev pub ChangesIndexes : SpaceValue → SpaceValue → Type 0
+ChangesIndexes old new = (added : List Added) × (new ≡ record old { added = added })

@@ -10,15 +10,16 @@ ghost use Rattle.stack_steps.specs.Languages.{asked_by_rust, frame_asks, rust_al
 ghost use Rattle.stack_steps.specs.Frames.{DescribedFrame, Described, FrameAt};
 ghost use Rattle.stack_steps.specs.Functions.{described_function, function_of};
 ghost use Rattle.stack_steps.specs.Modules.{AreElf, SpaceValue};
-ghost use Rattle.stack_steps.specs.Preparing.{Prepares, prepared_len};
+ghost use Rattle.stack_steps.specs.Preparing.{Prepares, PreparesAt, prepared_len};
 ghost use Rattle.stack_steps.specs.PreparedSample.{prepared_space, unprepared_space};
 ghost use Rattle.stack_steps.specs.Stepping.{frame_of};
 
-/// A module whose frame table describes one function becomes prepared, and whatever
+/// A module whose frame table describes one function becomes prepared, with all or alone, and whatever
 /// [`Space::prepare`](crate::Space::prepare) makes of its space has an index there: what
 /// [`step`](crate::step) says of prepared modules can be met. The function does nothing.
 pub fn a_module_is_prepared()
     ensures prepares { Prepares unprepared_space 1 prepared_space }
+    ensures at { PreparesAt unprepared_space 0x401006 prepared_space }
     ensures always { (count : ℕ) (space : SpaceValue) → Prepares unprepared_space count space →
         0 < prepared_len space 0x401006 }
     ensures indexed { prepared_len prepared_space 0x401006 ≡ 1 }

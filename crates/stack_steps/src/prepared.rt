@@ -31,7 +31,7 @@ pub(crate) const MOST: Left = Left {
 
 impl Left {
     /// What is left after an index.
-    fn after(self, index: &Prepared<'_>) -> Left
+    pub(crate) fn after(self, index: &Prepared<'_>) -> Left
         requires rows { index.now.row_count ≤ self.rows }
         requires rules { index.now.rule_count ≤ self.rules }
         ensures { LeavesBy self index.now result }
@@ -122,7 +122,7 @@ fn lists(kind: FrameInfoKind, named: &NamedTable<'_>, index: &Prepared<'_>) -> b
 /// # Errors
 ///
 /// Where memory runs out.
-fn table_for<'a>(
+pub(crate) fn table_for<'a>(
     alloc: Global,
     image: &MemoryImage<'a>,
     added_module: &AddedModule<'a>,

@@ -1,5 +1,6 @@
 // An image of memory, and the modules that lie in it.
-ghost use Rattle.std.specs.Prelude.{◌≡◌, ◌<◌, [], None, Some, IfOk, IfSome, MatchOption, ◌-◌, ◌≤◌, is_some, true};
+ghost use Rattle.std.specs.Prelude.{◌≡◌, ◌≢◌, ◌<◌, [], None, Ok, Some, IfOk, IfSome, IsNone, MatchOption, ◌-◌, ◌≤◌};
+ghost use Rattle.std.specs.Prelude.{false, is_some, true};
 ghost use Rattle.std.specs.Prelude.{IsOkUnless, OnOk, OnErr, ◌↔◌};
 ghost use Rattle.std.specs.List.{Contains};
 ghost use Rattle.std.specs.Option.{option_map};
@@ -11,7 +12,7 @@ ghost use Rattle.stack_steps.specs.Modules.{with_added, FitsIn, module_of_size, 
 ghost use Rattle.stack_steps.specs.Modules.{pe_sized, fits, given_refusal, contains};
 ghost use Rattle.stack_steps.specs.declared.space.ModuleTables.TheVariants.{Elf};
 
-use crate::prepared::{Left, MOST, are_prepared, keep, tables_for};
+use crate::prepared::{Left, MOST, are_prepared, keep, table_for, tables_for};
 use crate::shared_table::SharedTable;
 use fde_finders::{EhFrameFinder, FrameInfo};
 use memory_image::MemoryImage;
@@ -178,7 +179,8 @@ impl<'a> Model for Space<'a> {
 impl<'a> Space<'a> {
     ghost use Rattle.stack_steps.specs.AddedModule.{IsAddedModule, added_of, holder_of};
     ghost use Rattle.std.specs.List.{AllByRecursion};
-    ghost use Rattle.stack_steps.specs.Preparing.{IsAddedTo, Prepares, index_at, prepared_len};
+    ghost use Rattle.stack_steps.specs.Preparing.{HoldsAt, IsAddedTo, Prepares, PreparesAt, PreparesNoneAt};
+    ghost use Rattle.stack_steps.specs.Preparing.{index_at, prepared_len};
 
     /// A space without modules. It takes no memory yet.
     pub fn new(alloc: Global, image: MemoryImage<'a>) -> Space<'a>
@@ -370,6 +372,47 @@ impl<'a> Space<'a> {
         let count = keep(&mut self.added, made);
         self.left = left;
         Ok(count)
+    }
+
+    /// Makes an index of the frame table of the module that contains the address, as [`Space::prepare`]
+    /// does of all, where it isn't prepared yet and can be. It answers whether this call prepared it.
+    ///
+    /// # Errors
+    ///
+    /// `AllocError` where memory ran out. The space is then as before.
+    pub fn prepare_at(&mut self, address: u64) -> Result<bool, AllocError>
+        ensures prepares { result ≡ Ok true → PreparesAt self.old address self.new }
+        ensures none { result ≡ Ok false → PreparesNoneAt self.old address }
+        ensures unchanged { (result ≢ Ok true) → self.new ≡ self.old }
+    {
+        let Some(place) = self.place_at(address) else {
+            return Ok(false);
+        };
+        let added_module = &self.added[place];
+        let table = table_for(self.alloc, &self.image, added_module, self.left, &mut None)?;
+        let Some(shared) = table else {
+            return Ok(false);
+        };
+        self.left = self.left.after(&shared.table().index);
+        self.added[place].table = Some(shared);
+        Ok(true)
+    }
+
+    /// The place in the order of adding of the module that contains the address.
+    fn place_at(&self, address: u64) -> Option<usize>
+        ensures holds { IfSome result (λ place. HoldsAt self.now address place) }
+        ensures none { IsNone result → module_at self.now.modules address ≡ None }
+    {
+        match last_below(&self.modules, address) {
+            Some((_, module_entry)) => {
+                if address < module_entry.end {
+                    Some(module_entry.place)
+                } else {
+                    None
+                }
+            }
+            None => None,
+        }
     }
 
     /// How many descriptions the index of the module has that holds the address. 0 exactly where no

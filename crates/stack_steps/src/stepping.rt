@@ -318,6 +318,10 @@ where
     /// Puts the caller of the frame at a state in the state's place, and answers whether there is one.
     /// At the end of the stack and after a fault the state is as before. No room for rows is lent: one
     /// is made for the frame of a module that isn't prepared.
+    ///
+    /// # Errors
+    ///
+    /// Those of [`step`](crate::step).
     #[inline(always)]
     #[tactic(auto, unfolding(crate::specs::Stepping::step_of))]
     pub fn advance<L: Ledger>(
@@ -414,8 +418,12 @@ where
     't: 'a,
 {
     /// Puts the caller of the frame at a state in the state's place, as [`Stepper::advance`] does, by the
-    /// rows that were made before in modules that aren't prepared. A step by such a row counts none, and else
-    /// one search is counted, and a row is made in `rows`.
+    /// rows that were made before in modules that aren't prepared. A step by such a row counts none, and any
+    /// other what [`Stepper::advance`] counts. Where it searches by a program, a row is made in `rows`.
+    ///
+    /// # Errors
+    ///
+    /// Those of [`step`](crate::step).
     #[inline(always)]
     pub fn advance_by_made<L: Ledger>(
         &mut self,
