@@ -97,6 +97,7 @@ where
     ensures why { ComesTo result (over_image space.now image.now) limit start.now true }
     ensures no_cleanup { room.new.trail ≡ [] }
     ensures places { room.new.limit ≡ room.old.limit }
+    ensures made { AreMade (over_image space.now image.now) made.new }
 {
     let grown = GrownSpace::new(space, image);
     let steps = &mut Steps::new(NoLedger);
@@ -335,6 +336,8 @@ where
         (room.new.visited ≡ states) × (result.popped ≡ false) }
     ensures no_cleanup { room.new.trail ≡ [] }
     ensures places { room.new.limit ≡ room.old.limit }
+    // The rows stay those of the space.
+    ensures made { AreMade (over_image space.now image.now) made.new }
 {
     let why = walk_over_made(space, image, made, start, limit, room);
     if is_cut_at_start(why, room) {
