@@ -4,11 +4,12 @@ ghost use Rattle.unwind_arch.specs.declared.x86_64.Context.{Context as State};
 ghost use Rattle.stack_walks.specs.Lines.{GivesUnlessNoMemory, line_of};
 ghost use Rattle.stack_deliver.specs.StackDelivery.{delivery_through};
 ghost use Rattle.stack_steps.specs.Languages.{languages_of};
+ghost use Rattle.stack_steps.specs.Preparing.{ChangesIndexes};
 ghost use Rattle.stack_snapshot.specs.Content.{space_of};
 ghost use Rattle.stack_snapshot.specs.Sampled.{sampled_space};
 ghost use Rattle.unwind_cli.specs.Due.{delivery_from, fold_from, thrown_from, walk_from};
 
-use crate::searches::{Search, few_frames};
+use crate::searches::{Search, few_frames, more_delivered, more_walked};
 use folded_stacks::{FoldError, Folded, fold};
 use stack_deliver::{DeliverError, Delivery, Languages, Space, Visited, throw, walk};
 use stack_snapshot::{SampledSnapshot, Snapshot, ThrownSnapshot};
@@ -51,24 +52,45 @@ fn delivery_within(
     )
 }
 
-/// What is delivered of a snapshot where few states are met and few cleanups run, over its space as
-/// it is. `None` where they aren't few, and of a stack of which no frames are searched for.
+/// The same, where no more states are met and no more cleanups run. `None` where more are.
 fn few_delivered(
     alloc: Global,
     space: &Space<'_>,
     snapshot: &Snapshot,
     languages: &Languages<'_>,
+    few: u32,
 ) -> Option<Result<Delivery, DeliverError>>
+    requires { few ≤ snapshot.now.limit }
     ensures { IfSome result (λ delivered. GivesUnlessNoMemory delivered
         (delivery_through (languages_of languages.now) space.now snapshot.now.start
         snapshot.now.exception snapshot.now.resumes snapshot.now.limit)) }
 {
-    let few = few_frames(alloc, space, snapshot, false, Search::Delivery)?;
     let delivered = delivery_within(alloc, space, snapshot, languages, few);
     if meets_limit(&delivered) {
         return None;
     }
     Some(delivered)
+}
+
+/// What is delivered of a snapshot where it takes no more frames than are searched for, over its space, of
+/// which modules that hold most frames may become prepared. `None` where it takes more.
+fn searched_delivery(
+    alloc: Global,
+    space: &mut Space<'_>,
+    snapshot: &Snapshot,
+    languages: &Languages<'_>,
+) -> Option<Result<Delivery, DeliverError>>
+    ensures delivered { IfSome result (λ delivered. GivesUnlessNoMemory delivered
+        (delivery_through (languages_of languages.now) space.old snapshot.now.start
+        snapshot.now.exception snapshot.now.resumes snapshot.now.limit)) }
+    ensures same { ChangesIndexes space.old space.new }
+{
+    let few = few_frames(space, snapshot, Search::Delivery)?;
+    if let Some(delivered) = few_delivered(alloc, space, snapshot, languages, few) {
+        return Some(delivered);
+    }
+    let more = more_delivered(alloc, space, snapshot)?;
+    few_delivered(alloc, space, snapshot, languages, more)
 }
 
 /// What is delivered of a snapshot over a space whose modules are prepared first, where they can be.
@@ -98,7 +120,7 @@ fn snapshot_delivery(
         snapshot.now.exception snapshot.now.resumes snapshot.now.limit) }
 {
     let mut space = snapshot.space(alloc)?;
-    if let Some(delivered) = few_delivered(alloc, &space, snapshot, languages) {
+    if let Some(delivered) = searched_delivery(alloc, &mut space, snapshot, languages) {
         return delivered;
     }
     prepared_delivery(alloc, &mut space, snapshot, languages)
@@ -126,9 +148,30 @@ pub fn throw_snapshot(alloc: Global, thrown: &ThrownSnapshot) -> Result<Delivery
     snapshot_delivery(alloc, thrown.snapshot(), &thrown.languages())
 }
 
-/// The states of a snapshot's stack, where they are as few as are searched for, over its space as it is.
-/// `None` where they aren't, and of a stack of which none are searched for.
+/// The states of a snapshot's stack, where there are no more, over its space as it is. `None` where there
+/// are.
 fn few_states(
+    alloc: Global,
+    space: &Space<'_>,
+    snapshot: &Snapshot,
+    interrupted: bool,
+    few: u32,
+) -> Option<Result<Visited, DeliverError>>
+    requires { few ≤ snapshot.now.limit }
+    ensures { IfSome result (λ walked. GivesUnlessNoMemory walked
+        (line_of space.now snapshot.now.limit snapshot.now.start interrupted)) }
+{
+    let start = snapshot.start();
+    let walked = walk(alloc, space, &start, interrupted, few);
+    if meets_limit(&walked) {
+        return None;
+    }
+    Some(walked)
+}
+
+/// The states of a snapshot's stack, where there are no more than are searched for, over its space as it
+/// is. `None` where there are.
+fn searched_states(
     alloc: Global,
     space: &Space<'_>,
     snapshot: &Snapshot,
@@ -137,13 +180,12 @@ fn few_states(
     ensures { IfSome result (λ walked. GivesUnlessNoMemory walked
         (line_of space.now snapshot.now.limit snapshot.now.start interrupted)) }
 {
-    let few = few_frames(alloc, space, snapshot, interrupted, Search::Walk)?;
-    let start = snapshot.start();
-    let walked = walk(alloc, space, &start, interrupted, few);
-    if meets_limit(&walked) {
-        return None;
+    let few = few_frames(space, snapshot, Search::Walk)?;
+    if let Some(walked) = few_states(alloc, space, snapshot, interrupted, few) {
+        return Some(walked);
     }
-    Some(walked)
+    let more = more_walked(alloc, space, snapshot, interrupted)?;
+    few_states(alloc, space, snapshot, interrupted, more)
 }
 
 /// The states of a stack over a space whose modules are prepared first, where they can be.
@@ -171,7 +213,7 @@ pub fn walk_snapshot(alloc: Global, snapshot: &Snapshot) -> Result<Visited, Deli
 {
     let mut space = snapshot.space(alloc)?;
     let interrupted = snapshot.interrupted();
-    if let Some(walked) = few_states(alloc, &space, snapshot, interrupted) {
+    if let Some(walked) = searched_states(alloc, &space, snapshot, interrupted) {
         return walked;
     }
     let start = snapshot.start();

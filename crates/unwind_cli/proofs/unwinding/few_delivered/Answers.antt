@@ -7,4 +7,4 @@ returns c =
     let s = c.args.snapshot.now in
     let met = c.meets_limit.ensures in
     let within = c.if-meets_limit.false in
-    few_are_given (languages_of c.args.languages.now) c.args.space.now s.start s.exception s.resumes c.in_ok-few.few s.limit c.delivery_within-delivered.result c.in_ok-few.ensures (met.states within) (met.cleanups within) c.delivery_within-delivered.ensures
+    few_are_given (languages_of c.args.languages.now) c.args.space.now s.start s.exception s.resumes c.args.few s.limit c.delivery_within-delivered.result c.requires (met.states within) (met.cleanups within) c.delivery_within-delivered.ensures

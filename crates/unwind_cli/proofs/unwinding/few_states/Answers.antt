@@ -10,5 +10,5 @@ returns c =
     let s = c.args.snapshot.now in
     let space = c.args.space.now in
     let same : line_of space s.limit c.start-start.result c.args.interrupted ≡ line_of space s.limit s.start c.args.interrupted = rw c.start-start.ensures refl in
-    let given = few_are_given space c.in_ok-few.few s.limit c.start-start.result c.args.interrupted c.walk-walked.result c.in_ok-few.ensures (c.meets_limit.ensures.states c.if-meets_limit.false) c.walk-walked.ensures.exact in
+    let given = few_are_given space c.args.few s.limit c.start-start.result c.args.interrupted c.walk-walked.result c.requires (c.meets_limit.ensures.states c.if-meets_limit.false) c.walk-walked.ensures.exact in
     subst (λ (due : Result (List Context) DeliverError). GivesUnlessNoMemory c.walk-walked.result due) same given
