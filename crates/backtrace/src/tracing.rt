@@ -258,7 +258,7 @@ where
 ///
 /// # Errors
 ///
-/// `AllocError` where there is no memory for so many states.
+/// `AllocError` where there is no memory for so many states or for rows.
 pub fn trace_stack(
     alloc: Global,
     space: &Space<'_>,

@@ -143,8 +143,8 @@ fn put_frame_lines(
     origins: &Origins,
     room: &Room,
 ) -> Result<(), AllocError>
-    ensures lines { OnOk result (report.new ≡ report.old ++
-        frame_lines cache.old origins.now (addresses_of cache.old true (returns_of room.now.visited))) }
+    ensures lines { OnOk result (report.new ≡ report.old ++ frame_lines cache.old origins.now
+        (addresses_of cache.old true (returns_of room.now.visited))) }
     ensures same { cache.new ≡ cache.old }
 {
     let mut interrupted = true;

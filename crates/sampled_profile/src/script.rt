@@ -110,8 +110,8 @@ fn script_records(
 ///
 /// A sample is walked as [`profile_of`](crate::profile_of) says. Its lines are the name of its thread
 /// with its process and its number, and when it was taken; a mark where popped registers were kept; its
-/// frames, the innermost first, each with the address of its instruction, its place in the file of
-/// `origins` and the file's path; why there are no more, in brackets, unless the last frame is the
+/// frames, the innermost first, each with the address of its instruction, where its function begins in
+/// the file of `origins` with how far past that the instruction lies, and the file's path; why there are no more, in brackets, unless the last frame is the
 /// outermost; and an empty line. Of a caller the address is the byte before its return address, but for
 /// one that a signal interrupted, as an ELF module's frame table says: of that it is where it was
 /// interrupted. A space or a semicolon in a name is written as `_`, and what isn't known as

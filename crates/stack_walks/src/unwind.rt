@@ -323,7 +323,7 @@ where
 }
 
 /// Goes from a state outwards as a walk does, by the rows that were made before in modules that aren't
-/// prepared, so that most frames at addresses whose rows are there need no search.
+/// prepared, so that frames at addresses whose rows are there need no search.
 pub(crate) fn unwind_frames_by_made<'t, 'a, L: Ledger>(
     space: &GrownSpace<'_, 't, 'a>,
     state: &mut Stepped,

@@ -449,7 +449,7 @@ where
 }
 
 /// Walks as [`walk_to_end_over`] does, by the rows that were made before, over the same image, in modules
-/// that aren't prepared. Most frames at addresses whose rows are there need no search, and count none.
+/// that aren't prepared. Frames at addresses whose rows are there need no search, and count none.
 pub fn walk_to_end_made<'t, 'a, L: Ledger>(
     made: &mut MadeRows<'a>,
     space: &GrownSpace<'_, 't, 'a>,
