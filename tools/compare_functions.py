@@ -6,8 +6,8 @@
 PROFILE is the built program. Of each file the samples of the program with the most of them are taken, with --all those of
 every program, as compare_profile.py does. Their frames by `profile --script` are folded here: a frame is where the
 description begins that `readelf` prints for its address, or the address where it prints none, and the root is the name of
-the process, by the records of its thread. A line says whether those are the lines of `profile`, with the same counts. Then
-each frame of the samples whose frames are perf's is held against the function that `perf script` names there: whether its
+the process, by the records of its thread. A line says whether those are the lines of `profile`, with the same counts, and
+whether the frames of `profile --script` have these functions, and how far past their beginnings they lie. Then each frame of the samples whose frames are perf's is held against the function that `perf script` names there: whether its
 symbol begins where the description does. With --show the lines and the functions that differ are printed.
 """
 from __future__ import annotations
@@ -22,7 +22,7 @@ import subprocess
 import tempfile
 from typing import Iterator, NamedTuple
 
-from compare_profile import FRAME, KERNEL, MOST_FRAMES, REASON, Frame, Key, Places, blocks_of, frame_of_perf
+from compare_profile import KERNEL, MOST_FRAMES, REASON, Frame, Key, Places, blocks_of, frame_of_perf
 from elf_image import WORD
 from names import modules_of
 from perf_parts import FORK, Part, parts_of
@@ -31,6 +31,7 @@ from snapshot_file import Object, text_of
 from symbols import SUPPLIED, module_at
 
 DESCRIPTION = re.compile(r"[0-9a-f]+ [0-9a-f]+ [0-9a-f]+ FDE cie=[0-9a-f]+ pc=([0-9a-f]+)\.\.([0-9a-f]+)")
+WRITTEN = re.compile(r"\t0x([0-9a-f]+) (.*) \((.*)\)$")
 NAMED = re.compile(r"\t\s*([0-9a-f]+) (.*) \((.*)\)$")
 SYMBOL = re.compile(r"(.*)\+0x([0-9a-f]+)$")
 
@@ -79,6 +80,13 @@ class Functions:
         place = address if start is None else start
         return f"{place:#x}" if module is None else f"{os.path.basename(module.path)}+{(place - module.bias) % WORD:#x}"
 
+    def script_text(self, address: int) -> str:
+        """How it is written among the samples one after another."""
+        if module_at(self.modules, address) is None:
+            return "[unknown]"
+        start = self.start(address)
+        return f"{self.text(address)}+{address - (address if start is None else start):#x}"
+
 
 def descriptions_at(path: str, vdso: bytes | None) -> Descriptions:
     """The descriptions of a file, or of what the system supplies."""
@@ -91,9 +99,11 @@ def descriptions_at(path: str, vdso: bytes | None) -> Descriptions:
 
 
 class Sample(NamedTuple):
-    """The addresses asked of a sample's frames, from the innermost outwards, and what is said beside them."""
+    """The addresses asked of a sample's frames, from the innermost outwards, how each is written, and what is said beside
+    them."""
 
     addresses: tuple[int, ...]
+    texts: tuple[str, ...]
     marks: tuple[str, ...]
 
 
@@ -110,9 +120,10 @@ def samples_in(text: str) -> Iterator[tuple[Key, str, Sample]]:
     """The samples of the program's text: their keys, threads' names and frames."""
     for key, name, lines in blocks_of(text):
         reasons = [(line, REASON.match(line)) for line in lines]
-        frames = [FRAME.match(line) for line, reason in reasons if reason is None]
+        found = [WRITTEN.match(line) for line, reason in reasons if reason is None]
+        frames = [frame for frame in found if frame is not None]
         marks = tuple(reason[1] for _, reason in reasons if reason is not None)
-        yield key, name, Sample(tuple(int(frame[1], 16) for frame in frames if frame is not None), marks)
+        yield key, name, Sample(tuple(int(frame[1], 16) for frame in frames), tuple(frame[2] for frame in frames), marks)
 
 
 def folded(name: str, sample: Sample, functions: Functions) -> str:
@@ -183,6 +194,7 @@ class Tally:
         self.ours, self.lines = collections.Counter[str](), collections.Counter[str]()
         self.stacks, self.symbols = set[object](), set[object]()
         self.kinds, self.differing = collections.Counter[str](), collections.Counter[str]()
+        self.texts, self.written = 0, collections.Counter[str]()
 
     def note_lines(self, text: str) -> None:
         """Takes the lines of `profile`."""
@@ -195,6 +207,9 @@ class Tally:
         self.lines[folded(process, sample, functions)] += 1
         self.stacks.add((name, sample))
         self.symbols.add((process, sample.marks, tuple((frame.frame[0], frame.symbol or frame.frame[1]) for frame in frames)))
+        self.texts += len(sample.texts)
+        due = map(functions.script_text, sample.addresses)
+        self.written.update(f"{text} for {other}" for text, other in zip(sample.texts, due, strict=True) if text != other)
 
     def note_frames(self, sample: Sample, functions: Functions, places: Places, frames: list[Named]) -> None:
         """Takes how perf's functions stand to a sample's, where its frames are perf's."""
@@ -212,7 +227,7 @@ class Tally:
         """Prints what differs."""
         for line in sorted((self.ours - self.lines) | (self.lines - self.ours)):
             print(f"  {'profile' if line in self.ours else 'here'}: {line}")
-        for text, count in self.differing.most_common():
+        for text, count in (self.differing + self.written).most_common():
             print(f"  {count:,} {text}")
 
     def __str__(self) -> str:
@@ -220,7 +235,8 @@ class Tally:
         fewer, more = ((one - other).total() for one, other in ((self.lines, self.ours), (self.ours, self.lines)))
         told = f"other lines: {fewer} and {more} samples" if fewer or more else "same lines"
         frames = ", ".join(f"{kind} {count:,}" for kind, count in sorted(self.kinds.items()))
-        return (f"{self.ours.total():,} samples in {len(self.ours):,} lines, {told}; {len(self.stacks):,} by addresses, "
+        script = f"{self.written.total():,} of {self.texts:,} frames of --script written otherwise"
+        return (f"{self.ours.total():,} samples in {len(self.ours):,} lines, {told}; {script}; {len(self.stacks):,} by addresses, "
                 f"{len(self.symbols):,} by perf's names; frames: {frames}")
 
 

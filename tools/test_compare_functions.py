@@ -1,7 +1,7 @@
 """Tests of compare_functions.py, over text as readelf and perf print it."""
 import unittest
 
-from compare_functions import Descriptions, Functions, Sample, folded, named_frame, relation, samples_in
+from compare_functions import Descriptions, Functions, folded, named_frame, relation, samples_in
 from names import modules_of
 from snapshot_file import Object
 
@@ -46,7 +46,11 @@ class CompareFunctions(unittest.TestCase):
     def test_sample_is_folded_from_its_lines(self) -> None:
         ((key, name, sample),) = samples_in(SCRIPT)
         self.assertEqual((key, name), ((9, 1000000001), "worker"))
-        self.assertEqual(sample, Sample((0x401075, 0x401050), ("[popped]", "[no table]")))
+        self.assertEqual(sample.addresses, (0x401075, 0x401050))
+        self.assertEqual(sample.texts, ("a.out+0x1070+0x5", "a.out+0x1050+0x0"))
+        self.assertEqual(sample.marks, ("[popped]", "[no table]"))
+        self.assertEqual([functions().script_text(address) for address in sample.addresses], list(sample.texts))
+        self.assertEqual(functions().script_text(0x501050), "[unknown]")
         self.assertEqual(folded("main", sample, functions()), "main;[no table];a.out+0x1050;a.out+0x1070;[popped]")
 
     def test_symbol_is_held_against_the_description(self) -> None:
