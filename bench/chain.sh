@@ -70,7 +70,7 @@ measure() {
         fi
         read=$(inclusive reading:: serde_json::)
         json=$(inclusive serde_json::)
-        prepare=$(inclusive Space::prepare prepared::tables_for Prepared::build)
+        prepare=$(inclusive Space::prepare prepared::table Prepared::build)
         printf '%8d %14d %8s %7d %8s %14d %8s %8d %9d %9d %12d %12d %12d (%s, %s)\n' "$count" "$proved_whole" \
             "$proved_frame" "$((proved_alone / count))" "$growth" "$peer_whole" "$peer_frame" \
             "$((gimli_alone / count))" "$(peak "$proved" "$word" <"$work/input")" \
